@@ -1,0 +1,11 @@
+pub mod Types
+pub mod Data
+pub mod Values
+pub mod Spelling
+pub mod Rows
+pub mod Message
+pub mod Grammar
+pub mod Writing
+pub mod Asking
+pub mod Exchange
+pub mod Desk

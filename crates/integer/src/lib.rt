@@ -1,0 +1,1 @@
+pub fn nothing(x: u8) -> u8 { x }

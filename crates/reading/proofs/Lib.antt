@@ -1,0 +1,4 @@
+pub mod Sound
+pub mod Only
+pub mod Does
+pub mod Places
