@@ -1,7 +1,7 @@
 -- Asking a row (01, "Asking a row"), and looking up a label (01, "The rows").
-use mathlib.Core.Bool.{Bool, true, false, cond, _&&_}
+use mathlib.Core.Bool.{Bool, cond, _&&_}
 use mathlib.Core.List.{List, [], _∷_}
-use Prim.Native.Nat.{ℕ, _-_, _^_}
+use Prim.Native.Nat.{ℕ, _^_}
 use lib.Dec.{ltb, eqb}
 use lib.IntN.{ℤ, pos, negsuc}
 use lib.Signed.{mag, nonNeg}
@@ -9,14 +9,14 @@ use Rattle.reading.specs.Reading.{refusal}
 use Rattle.format.specs.declared.Row.{Row}
 use Rattle.format.specs.declared.As.{As}
 use Rattle.format.specs.declared.As.the-variants.{Int16, Int32, Int64, Octet, Char, Boolean}
-use Rattle.format.specs.Types.{Datum, packed, fixed, code, amount, implied, Sort, integral, octet, char, boolean, null, other, Kind, kindOf}
+use Rattle.format.specs.Types.{Datum, packed, fixed, code, amount, implied, Sort, integral, octet, char, boolean, null, other, kindOf}
 use Rattle.format.specs.Data.{within, eqZ}
 use Rattle.format.specs.Message.{Answer, ok, refused, unless}
 
 -- 01: "Possible are: the type's range (boolean 32-bit, float32 0..4,294,967,295, float64 signed 64-bit); 0..2,147,483,647 for a length, size, version,
 -- identity or reference; the fixed number for the rest."
 abbrev pub possible : Datum → ℤ → Bool
-possible (packed w limit) z = ltb (mag z) limit
+possible (packed w) z = ltb (mag z) (w .bound)
 possible (fixed n) z = cond (ltb n 8) (nonNeg z && ltb (mag z) (256 ^ n)) (ltb (mag z) (2 ^ 63))
 possible code z = nonNeg z && ltb (mag z) (2 ^ 16)
 possible amount z = nonNeg z && ltb (mag z) (2 ^ 31)

@@ -2,13 +2,13 @@
 use mathlib.Core.Bool.{Bool, true, false, cond, _&&_, _||_, not}
 use mathlib.Core.List.{List, [], _∷_, _++_}
 use Prim.Native.Nat.{ℕ, zero, suc, _+_, _*_, _-_, _/_, _%_, _^_}
-use lib.ListN.{length, getD, take, drop}
+use lib.ListN.{getD, take, drop}
 use lib.Dec.{ltb, leb, eqb}
 use lib.IntN.{ℤ, pos, negsuc}
 use lib.Signed.{mag, leZ, ltZ, nonNeg}
 use Rattle.reading.specs.Reading.{Reader, _>>=_, _>>_, return, require, octet, here, either}
-use Rattle.integer.specs.Packed.{Width, wide32, integer, spellInt}
-use Rattle.format.specs.Types.{Datum, packed, fixed, code, amount, implied, Text, none, octets, characters, Parts, date, time, dateTime, Kind, kindOf}
+use Rattle.integer.specs.Packed.{wide32, integer, spellInt}
+use Rattle.format.specs.Types.{Datum, packed, fixed, code, amount, implied, Text, none, octets, characters, Parts, date, time, dateTime, kindOf}
 
 -- ---- tests
 
@@ -107,15 +107,10 @@ contents characters n = do
 
 -- ---- numbers
 
--- 01: "int16, int32, int64: one integer. float32, float64: 4 or 8 octets. Boolean: one integer, kept as sent. Octet: one octet." "For int16 the integer
--- is read as 32-bit and then limited to -32,768 to 32,767." "3 | integer not shortest or not fitting | its first octet". "5 | negative size, length, version,
--- identity or reference number | that integer"
+-- 01: "int16, int32, int64: one integer. float32, float64: 4 or 8 octets, most significant first. Boolean: one integer, kept as sent. Octet: one octet."
+-- "5 | negative size, length, version, identity or reference number; .. | that integer"
 unfoldable pub number : Datum → Reader ℤ
-number (packed w limit) = do
-  p ← here
-  z ← integer w
-  require (ltb (mag z) limit) 3 p
-  return z
+number (packed w) = integer w
 number (fixed n) = do
   l ← run n
   return (bits (big 0 l))
@@ -130,7 +125,7 @@ number amount = do
 number (implied z) = return z
 
 unfoldable pub spellNumber : Datum → ℤ → List ℕ
-spellNumber (packed w limit) z = spellInt z
+spellNumber (packed w) z = spellInt z
 spellNumber (fixed n) z = bigSpelt n (unsigned z)
 spellNumber code z = spellChar (mag z)
 spellNumber amount z = spellInt z

@@ -5,7 +5,6 @@ use Prim.Native.Nat.{ℕ, zero, suc, _+_, _-_, _*_, _/_, _%_}
 use lib.ListN.{length}
 use lib.Dec.{ltb, leb, eqb}
 use lib.IntN.{ℤ, pos, negsuc}
-use Rattle.reading.specs.declared.Refusal.{Refusal}
 use Rattle.reading.specs.Reading.{refusal}
 use Rattle.format.specs.declared.Row.{Row}
 use Rattle.format.specs.Message.{Answer, ok, refused, unless, isEmpty, readFrame}
@@ -64,8 +63,8 @@ rowsText [] = []
 rowsText (r ∷ rs) = rowText r ++ rowsText rs
 
 -- 01: "An accepted frame prints `ok`, the conversation number and the count of rows, then the rows .. A refusal prints `no NUMBER PLACE`."
-abbrev pub printed : Answer (ℤ × List Row) → List ℕ
-printed (ok a) = 0x6F ∷ 0x6B ∷ (numbers (a .0 ∷ pos (length (a .1)) ∷ []) ++ rowsText (a .1))
+abbrev pub printed : Answer (ℤ × ℕ × List Row) → List ℕ
+printed (ok a) = 0x6F ∷ 0x6B ∷ (numbers (a .0 ∷ pos (length (a .2)) ∷ []) ++ rowsText (a .2))
 printed (refused r) = 0x6E ∷ 0x6F ∷ numbers (pos (r .number) ∷ pos (r .place) ∷ [])
 
 -- the text for a line. 01: "At most 256 rows, else 12."

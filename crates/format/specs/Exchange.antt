@@ -1,6 +1,6 @@
 -- Exchanging a property in a frame (01, "Exchanging a property").
 use mathlib.Core.Bool.{Bool, true, false, cond}
-use mathlib.Core.List.{List, [], _∷_, _++_}
+use mathlib.Core.List.{List, _++_}
 use Prim.Native.Nat.{ℕ}
 use lib.ListN.{length}
 use lib.Dec.{leb}
@@ -9,9 +9,9 @@ use Rattle.reading.specs.declared.Refusal.{Refusal}
 use Rattle.reading.specs.Reading.{refusal}
 use Rattle.integer.specs.Packed.{spellInt}
 use Rattle.format.specs.Data.{eqZ}
-use Rattle.format.specs.Values.{Head, Children, empty, child, childOf, Value, value}
+use Rattle.format.specs.Values.{Children, empty, child, childOf, Value, value}
 use Rattle.format.specs.Spelling.{spell}
-use Rattle.format.specs.Message.{Answer, ok, refused, message, Frame, frame}
+use Rattle.format.specs.Message.{Answer, ok, refused, message, frame}
 
 -- ---- the exchanged message
 

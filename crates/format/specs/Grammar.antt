@@ -1,17 +1,16 @@
 -- Which values the format has, without reading: what a head may say and which values a container may hold (`Shaped`), how deep they may stand (`Deep`), and
--- which identities they may name (`Named`). Octets are accepted exactly if they are the spelling of a valid value, of at most 65,535 octets.
+-- which identities they may name (`Named`).
 use mathlib.Core.Path.{_≡_}
 use mathlib.Core.Bool.{Bool, true, false, cond}
 use mathlib.Core.List.{List, [], _∷_, _++_}
-use Prim.Native.Nat.{ℕ, zero, suc, _+_, _^_, _≤_, _<_}
+use Prim.Native.Nat.{ℕ, zero, suc, _^_, _≤_, _<_}
 use lib.ListN.{length}
 use lib.IntN.{ℤ, pos, negsuc}
 use lib.Signed.{mag, nonNeg, ltZ}
 use Rattle.reading.specs.Reading.{Env}
-use Rattle.integer.specs.Packed.{wide32}
-use Rattle.format.specs.Types.{Datum, packed, fixed, code, amount, implied, Text, none, octets, characters, Parts, Holds, nothing, values, couples, indexes, properties, one, parts, Names, silent, gives, refers, Kind, kindOf}
+use Rattle.format.specs.Types.{Datum, packed, fixed, code, amount, implied, Text, none, octets, characters, Parts, Names, silent, gives, refers, Kind, kindOf}
 use Rattle.format.specs.Data.{bits, spellChar, usual, offset, fits}
-use Rattle.format.specs.Values.{Head, head, Children, empty, child, childOf, Value, Form, whole, bare, Rule, counted, rising, moments, ruleOf, label, may, pieces, has, begun, closed}
+use Rattle.format.specs.Values.{Head, Children, empty, child, childOf, Value, Form, whole, bare, Rule, counted, rising, moments, ruleOf, label, may, pieces, has, begun, closed, levels, mostIdentities}
 
 -- ---- heads
 
@@ -21,7 +20,7 @@ Int32 z = mag z < 2 ^ 31
 
 -- the numbers that a datum can say
 abbrev pub Number : Datum → ℤ → Type 0
-Number (packed w limit) z = (mag z < w .bound) × (mag z < limit)
+Number (packed w) z = mag z < w .bound
 Number (fixed n) z = (m : ℕ) × (m < 256 ^ n) × (z ≡ bits m)
 Number code z = (c : ℕ) × (c < 2 ^ 16) × (z ≡ pos c)
 Number amount z = Int32 z × (nonNeg z ≡ true)
@@ -134,7 +133,7 @@ Deep (suc lv) (child i h cs more) = Leveled (ruleOf h) (Deep lv cs) × Deep (suc
 
 abbrev pub Allowed : Names → ℕ → Env → Type 0
 Allowed silent n e = Unit {0}
-Allowed gives n e = (has n (e .opened) ≡ false) × (length (e .opened) < 64)
+Allowed gives n e = (has n (e .opened) ≡ false) × (length (e .opened) < mostIdentities)
 Allowed refers n e = has n (e .ended) ≡ true
 
 abbrev pub opens : Head → Env → Env
@@ -158,5 +157,5 @@ Named e (child i h cs more) =
 pub record Valid (v : Value) : Type 0 where
   pub outermost : Whole false (v .top)
   pub shaped : Shaped v
-  pub deep : Deep 16 (childOf 0 v empty)
+  pub deep : Deep levels (childOf 0 v empty)
   pub named : Named (record { opened = []; ended = [] }) (childOf 0 v empty)

@@ -1,5 +1,5 @@
 -- Reading a message, measuring, and reading a frame (01, "The frame", "Numbers given back").
-use mathlib.Core.Bool.{Bool, true, false, cond}
+use mathlib.Core.Bool.{Bool, true, false}
 use mathlib.Core.List.{List, [], _∷_}
 use Prim.Native.Nat.{ℕ, _+_}
 use lib.ListN.{length}
@@ -7,13 +7,13 @@ use lib.Dec.{leb}
 use lib.IntN.{ℤ}
 use lib.Signed.{mag, nonNeg}
 use Rattle.reading.specs.declared.Refusal.{Refusal}
-use Rattle.reading.specs.Reading.{Env, State, Out, got, stop, Reader, refusal, start, _>>=_, _>>_, return, require, here, ahead}
+use Rattle.reading.specs.Reading.{Out, got, stop, Reader, refusal, start, _>>=_, _>>_, return, require, here, ahead}
 use Rattle.integer.specs.Packed.{wide32, integer}
 use Rattle.format.specs.declared.Row.{Row}
-use Rattle.format.specs.Values.{Head, Value, outermost}
+use Rattle.format.specs.Values.{Value, outermost}
 use Rattle.format.specs.Rows.{rows}
 
--- what an entry answers: its result, or a refusal
+-- What an entry answers: its result, or a refusal. An entry with one input names input 1, which is not kept; the exchange says which.
 pub data Answer (A : Type 0) : Type 0 where
   ok : A → Answer A
   refused : Refusal → Answer A
@@ -32,8 +32,11 @@ answer (got a s) = ok a
 answer (stop r) = refused r
 
 -- 01: "2 | over 65,535 octets | 0". "Order: 2; then faults in octet order"
+abbrev pub mostOctets : ℕ
+mostOctets = 65535
+
 abbrev pub reading : {A : Type 0} → Reader A → List ℕ → Answer A
-reading p o = unless (leb (length o) 65535) 2 (answer (p (start o)))
+reading p o = unless (leb (length o) mostOctets) 2 (answer (p (start o)))
 
 -- 01: "11 | octets left over | the first of them"
 abbrev pub isEmpty : List ℕ → Bool
@@ -47,34 +50,34 @@ ends = do
   require (isEmpty l) 11 p
 
 -- one value, and nothing left over
-unfoldable pub whole-message : Reader Value
-whole-message = do
+unfoldable pub wholeMessage : Reader Value
+wholeMessage = do
   v ← outermost
   ends
   return v
 
 -- a message on its own, with rows enough
 unfoldable pub message : List ℕ → Answer Value
-message o = reading whole-message o
+message o = reading wholeMessage o
 
 -- 01: "12 | fewer rows lent than needed | 0". "a reading may use as many rows as the shortest column has"
-abbrev pub lend : ℕ → List Row → Answer (List Row)
-lend lent r = unless (leb (length r) lent) 12 (ok r)
+abbrev pub withinRows : ℕ → List Row → Answer (List Row)
+withinRows lent r = unless (leb (length r) lent) 12 (ok r)
 
 -- reading a message into so many lent rows
 unfoldable pub readMessage : ℕ → List ℕ → Answer (List Row)
-readMessage lent o = then (message o) (λ v. lend lent (rows v))
+readMessage lent o = then (message o) (λ v. withinRows lent (rows v))
 
 -- ---- measuring
 
-unfoldable pub length-of-first : Reader ℕ
-length-of-first = do
+unfoldable pub firstLength : Reader ℕ
+firstLength = do
   v ← outermost
   here
 
 -- 01: "Measuring ignores what follows the first value, but 2 still holds for the run given". "never gives 12"
 unfoldable pub measure : List ℕ → Answer ℕ
-measure o = reading length-of-first o
+measure o = reading firstLength o
 
 -- ---- the frame
 
@@ -90,8 +93,8 @@ isUser v = nonNeg (v .top .ty)
 
 -- 01: "Remaining length (0 or more), conversation number, message. The length equals the octets that follow it." "In a frame: length integer, 5, then 1 or
 -- 11 against the octets given, conversation, message, left over within the frame, 16, 12. All frame places count from the frame's first octet."
-unfoldable pub whole-frame : Reader Frame
-whole-frame = do
+unfoldable pub wholeFrame : Reader Frame
+wholeFrame = do
   p ← here
   n ← integer wide32
   require (nonNeg n) 5 p
@@ -101,13 +104,17 @@ whole-frame = do
   require (leb (length l) (mag n)) 11 (q + mag n)
   c ← integer wide32
   from ← here
-  v ← whole-message
+  v ← wholeMessage
   require (isUser v) 16 0
   return (record { conversation = c; from = from; said = v })
 
 unfoldable pub frame : List ℕ → Answer Frame
-frame o = reading whole-frame o
+frame o = reading wholeFrame o
 
--- reading a frame into so many lent rows, whose places are message places: its conversation number and its rows
-unfoldable pub readFrame : ℕ → List ℕ → Answer (ℤ × List Row)
-readFrame lent o = then (frame o) (λ f. then (lend lent (rows (f .said))) (λ r. ok (f .conversation, r)))
+-- reading a frame into so many lent rows, whose places are message places: its conversation number, the place of its message in it, and the rows
+unfoldable pub readFrame : ℕ → List ℕ → Answer (ℤ × ℕ × List Row)
+readFrame lent o = then (frame o) (λ f. then (withinRows lent (rows (f .said))) (λ r. ok (f .conversation, f .from, r)))
+
+-- 01: "Frame places and message places are two counts": a place of the message that starts at `from`, as a place of the frame
+abbrev pub inFrame : ℕ → ℕ → ℕ
+inFrame from p = from + p

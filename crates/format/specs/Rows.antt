@@ -3,7 +3,7 @@ use mathlib.Core.Bool.{Bool, true, false, cond}
 use mathlib.Core.List.{List, [], _∷_, _++_}
 use Prim.Native.Nat.{ℕ, suc, _+_, _-_}
 use lib.ListN.{length}
-use lib.IntN.{ℤ, pos, negsuc}
+use lib.IntN.{pos}
 use Rattle.format.specs.declared.Row.{Row}
 use Rattle.format.specs.Types.{Text, none, octets, characters, kindOf}
 use Rattle.format.specs.Values.{Head, Children, empty, child, childOf, Value, value, ruleOf}
@@ -14,30 +14,30 @@ unfoldable pub count : Children → ℕ
 count empty = 0
 count (child i h cs next) = suc (count cs + count next)
 
-abbrev pub stringy : Text → Bool
-stringy none = false
-stringy octets = true
-stringy characters = true
+abbrev pub hasContents : Text → Bool
+hasContents none = false
+hasContents octets = true
+hasContents characters = true
 
 -- 01: "place of string contents (0 for the others)". The contents of a string are the last of its octets.
 abbrev pub placeOf : Head → ℕ → ℕ
-placeOf h from = cond (stringy (kindOf (h .ty) .text)) (from + length (fore h) - length (h .text)) 0
+placeOf h from = cond (hasContents (kindOf (h .ty) .text)) (from + length (fore h) - length (h .text)) 0
 
--- 01: "Ten numbers: type; own; label; number; first and second element type (0 where none); place of string contents (0 for the others); rows below it;
+-- 01: "Ten numbers: type; own ..; label; number; first and second element type (0 where none); place of string contents (0 for the others); rows below it;
 -- start; end (just past)."
 abbrev pub rowOf : ℕ → Head → ℕ → ℕ → ℕ → Row
-rowOf i h below from to = record
-  { ty = h .ty
-  ; own = h .own
-  ; label = i
-  ; number = h .number
-  ; first = h .first
-  ; second = h .second
-  ; place = placeOf h from
-  ; below = below
-  ; start = from
-  ; end = to
-  }
+rowOf i h below from to = record {
+  ty = h .ty;
+  own = h .own;
+  label = i;
+  number = h .number;
+  first = h .first;
+  second = h .second;
+  place = placeOf h from;
+  below = below;
+  start = from;
+  end = to;
+}
 
 -- 01: "One row a value, a container before its contents." The values stand one after another from `at` on, each after its index where they have one.
 unfoldable pub rowsFrom : Bool → ℕ → Children → List Row

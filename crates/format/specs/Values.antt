@@ -1,7 +1,7 @@
 -- Values and how they are read (01, "Types and their octets"; the order of refusals is that of "Numbers given back").
 use mathlib.Core.Bool.{Bool, true, false, cond, not}
 use mathlib.Core.List.{List, [], _∷_}
-use Prim.Native.Nat.{ℕ, zero, suc, _+_, _*_, _/_, _^_}
+use Prim.Native.Nat.{ℕ, zero, suc, _*_, _/_, _^_}
 use lib.ListN.{length}
 use lib.Dec.{ltb, leb, eqb}
 use lib.IntN.{ℤ, pos, negsuc}
@@ -66,8 +66,8 @@ abbrev pub formed : Bool → ℤ → Form
 formed true e = bare e
 formed false e = whole false
 
--- 01: "Collection, array: size, then values. Uniform ones: element type, size, then bare values. Map: size, key and value pairs; uniform keys: key type,
--- size, bare keys and whole values; uniform map: key type, value type, size, all bare. Sparse array: size, then pairs of index and value, index rising and
+-- 01: "Collection, array: size, then values. Uniform ones: element type, size, then bare values (data with no identifier). Map: size, key and value pairs;
+-- uniform keys: key type, size, bare keys and whole values; uniform map: key type, value type, size, all bare. Equal keys are allowed. Sparse array: size, then pairs of index and value, index rising and
 -- below size, then -1. Uniform sparse: element type first. User type: version of 0 or more, then rising property indexes of 0 or more with values, then -1.
 -- Identity: number of 0 or more, then one value, which isn't an identity." (A property index is a 32-bit integer, so below 2 ^ 31.)
 abbrev pub ruleBy : Kind → Holds → Head → Rule
@@ -84,6 +84,10 @@ ruleOf h = ruleBy (kindOf (h .ty)) (kindOf (h .ty) .holds) h
 
 -- ---- identities
 
+-- how many a message may give
+abbrev pub mostIdentities : ℕ
+mostIdentities = 64
+
 unfoldable pub has : ℕ → List ℕ → Bool
 has n [] = false
 has n (x ∷ l) = cond (eqb x n) true (has n l)
@@ -99,13 +103,13 @@ closed silent n e = e
 closed gives n e = record { opened = e .opened; ended = n ∷ e .ended }
 closed refers n e = e
 
--- 01: "A number is given once per message. Reference: the number of an identity whose value has ended before it." "9 | identity given twice, a 65th | the
--- number". "10 | reference to no ended identity | the number"
+-- 01: "A number is given once per message. Reference: the number of an identity whose value has ended before it." "9 | identity given twice, a 65th, or identity of identity |
+-- the number; inner identifier". "10 | reference to no ended identity | the number"
 unfoldable pub allow : Names → ℕ → ℕ → Env → Reader (Unit {0})
 allow silent n p e = return tt
 allow gives n p e = do
   require (not (has n (e .opened))) 9 p
-  require (ltb (length (e .opened)) 64) 9 p
+  require (ltb (length (e .opened)) mostIdentities) 9 p
 allow refers n p e = require (has n (e .ended)) 10 p
 
 unfoldable pub enter : Names → ℕ → ℕ → Reader (Unit {0})
@@ -132,7 +136,7 @@ may true gives = false
 may true refers = true
 
 -- 01: "A value is a type identifier (packed integer) and its data." "At a value: identifier (1, 3), 4, identity of identity, 8, data. A bare value: 8 before
--- its data." "9 | identity of identity | inner identifier". "Start is the identifier, or the first data octet if bare."
+-- its data." "Start is the identifier, or the first data octet if bare."
 unfoldable pub each : Inner → Form → Reader Value
 each inner (whole once) = do
   p ← here
@@ -152,7 +156,7 @@ turns inner paired f g (suc n) i = do
   cs ← turns inner paired g f n (suc i)
   return (childOf (label paired i) v cs)
 
--- 01: "pairs of index and value, index rising and below size, then -1". "5 | index below -1, not rising or not below size | that integer".
+-- 01: "pairs of index and value, index rising and below size, then -1". "5 | ..; index below -1, not rising or not below size | that integer".
 -- (k, one more than the indexes that can still come, never falls to 0.)
 unfoldable pub pairs : Inner → Form → ℕ → ℕ → ℕ → Reader Children
 pairs inner f zero top low = refuse 5 0
@@ -189,7 +193,11 @@ front k t o = do
   return (head t o n e f l)
 
 -- 01: "The outermost value is at level 1, a value inside one at level n is at n + 1. So under an identity too; the integers of a date or time have no level."
--- "8 | level 17 | the value's start". With lv levels left:
+-- "8 | level 17 | the value's start".
+abbrev pub levels : ℕ
+levels = 16
+
+-- the data of a value, with lv levels left
 unfoldable pub dataOf : ℕ → Inner
 dataOf zero t o p = refuse 8 p
 dataOf (suc lv) t o p = do
@@ -200,6 +208,6 @@ dataOf (suc lv) t o p = do
   leave (kindOf t .names) (mag (h .number))
   return (value h cs)
 
--- the outermost value
+-- The outermost value.
 unfoldable pub outermost : Reader Value
-outermost = each (dataOf 16) (whole false)
+outermost = each (dataOf levels) (whole false)

@@ -6,7 +6,8 @@ pub struct Row {
     pub own: u8,
     // Position from 0, pair position in a map, index or property index; 0 for the outermost value and under an identity.
     pub label: u32,
-    // The integer, float bits, octet, code, contents length, size, version, identity or reference number.
+    // The integer, float bits (float64's as signed 64-bit), octet, code, contents length, size, version, identity or
+    // reference number; 0 and 1 for -33 and -34; 0 for -35 to -40, and for a date or time.
     pub number: i64,
     // The element types of a uniform form, 0 where none.
     pub first: i32,

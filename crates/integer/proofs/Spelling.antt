@@ -5,9 +5,8 @@ use mathlib.Core.List.{List, [], _∷_}
 use Prim.Native.Nat.{ℕ, zero, suc, _+_, _*_, _/_, _%_, _^_, _<_, _≤_}
 use native.Mathlib.Omega.{arith}
 use native.Mathlib.Nat.{pow-suc}
-use native.Mathlib.Numerals.{add-one}
 use lib.ListN.{length}
-use lib.Dec.{ltb, lit<}
+use lib.Dec.{ltb, lit<, lit≤}
 use lib.IntN.{ℤ, pos, negsuc}
 use lib.Signed.{mag}
 use borrow.Author.Tests.{ltb-true, ltb-false, lt-ltb, le-ltb}
@@ -47,6 +46,7 @@ groups-few (suc k) n h = by (groups-few k (n / 128)) (ltb n 128) refl
   where
     grows : 128 ^ suc (suc k) ≡ 128 ^ suc k * 128
     grows = pow-suc 128 (suc k)
+
     by : (n / 128 < 128 ^ suc k → length (groups (n / 128)) ≤ suc k) → (t : Bool) → ltb n 128 ≡ t → length (groups n) ≤ suc (suc k)
     by rest true e = rw (groups-last n (ltb-true n 128 e)) (omega arith)
     by rest false e =
@@ -125,3 +125,29 @@ spelt z = by (signBit z) (mag z) (bit-of z .0) (bit-of z .1) refl refl (λ b. si
     by f n d c u m s false e =
         let q : 64 ≤ n = ltb-false n 64 e in
         more (f + 128 + n % 64) (n / 64) (u ∙ spellWith-more f n q) (omega arith) (omega arith) (omega arith) (s (f + 128 + n % 64) (same-bit f (n % 64) d c (omega arith)))
+
+-- ---- how long a spelling is
+
+pub length-one : (f n : ℕ) → n < 64 → length (spellWith f n) ≡ 1
+length-one f n h = ap length (spellWith-one f n h)
+
+pub length-more : (f n : ℕ) → 64 ≤ n → length (spellWith f n) ≡ length (groups (n / 64)) + 1
+length-more f n h = rw (spellWith-more f n h) (omega arith)
+
+-- the groups left to count
+pub record Counted (m₀ m count : ℕ) : Type 0 where
+  pub total : length (groups m) + count ≡ length (groups m₀) + 2
+  pub few : length (groups m₀) ≤ 9
+
+pub counted-first : (n : ℕ) → n < 2 ^ 64 → Counted (n / 64) (n / 64) 2
+counted-first n h = record { total = refl; few = groups-few 8 (n / 64) (omega arith) }
+
+pub counted-again : {m₀ m count : ℕ} → Counted m₀ m count → 128 ≤ m → Counted m₀ (m / 128) (count + 1)
+counted-again {m₀} {m} {count} k h = record { total = omega (arith, ap length (groups-more m h), k .total); few = k .few }
+
+pub counted-last : {m₀ m count : ℕ} → Counted m₀ m count → m < 128 → count ≡ length (groups m₀) + 1
+counted-last {m₀} {m} {count} k h = omega (arith, ap length (groups-last m h), k .total)
+
+pub signBit-le : (z : ℤ) → signBit z ≤ 64
+signBit-le (pos n) = lit≤ tt
+signBit-le (negsuc n) = lit≤ tt

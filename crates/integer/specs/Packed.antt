@@ -16,6 +16,10 @@ pub record Width : Type 0 where
 abbrev pub wide32 : Width
 wide32 = record { bound = 2 ^ 31; more = 4 }
 
+-- 01: "For int16 the integer is read as 32-bit and then limited to -32,768 to 32,767." (Both are refusal 3 at its first octet.)
+abbrev pub wide16 : Width
+wide16 = record { bound = 2 ^ 15; more = 4 }
+
 abbrev pub wide64 : Width
 wide64 = record { bound = 2 ^ 63; more = 9 }
 
@@ -29,12 +33,12 @@ further zero p = refuse 3 p
 further (suc k) p = do
   b ← octet
   either (ltb b 128)
-    (do
-      require (not (eqb b 0)) 3 p
-      return b)
-    (do
-      n ← further k p
-      return (b % 128 + 128 * n))
+      (do
+        require (not (eqb b 0)) 3 p
+        return b)
+      (do
+        n ← further k p
+        return (b % 128 + 128 * n))
 
 -- 01: "If negative, the value is -1 - n."
 abbrev pub sign : Bool → ℕ → ℤ
@@ -51,10 +55,10 @@ integer w = do
   p ← here
   b ← octet
   n ← either (ltb b 128)
-    (return (b % 64))
-    (do
-      m ← further (w .more) p
-      return (b % 64 + 64 * m))
+      (return (b % 64))
+      (do
+        m ← further (w .more) p
+        return (b % 64 + 64 * m))
   require (ltb n (w .bound)) 3 p
   return (sign (positive b) n)
 

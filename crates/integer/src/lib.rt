@@ -1,1 +1,274 @@
-pub fn nothing(x: u8) -> u8 { x }
+ghost use mathlib.Core.Path.{_≡_};
+ghost use Prim.Native.Nat.{_+_, _*_, _%_, _^_, _≤_, _<_};
+ghost use lib.ListN.{length};
+ghost use lib.Signed.{mag};
+ghost use Rattle.integer.specs.Packed.{sign, groups, spellWith, signBit, spellInt};
+ghost use Rattle.integer.specs.Writes.{Room, Wrote};
+ghost use Rattle.integer.specs.Answers.{gate, Also, FewAt, joinedOf, Tail, Reads32, Reads64};
+use reading::Refusal;
+
+// ---- Reading ----
+
+// The place past an integer and its n (of n, or of -1 - n); or a refusal.
+pub enum Magnitude {
+    Mag(usize, u64),
+    Ill(Refusal),
+}
+
+// A 32-bit integer with the place past it, or a refusal.
+pub enum Read32 {
+    Int32(usize, i32),
+    Refused32(Refusal),
+}
+
+// A 64-bit integer with the place past it, or a refusal.
+pub enum Read64 {
+    Int64(usize, i64),
+    Refused64(Refusal),
+}
+
+// Some octets after an integer's first: 1 if all are continued, else 0; how many of them belong to the integer; the bits that these hold.
+pub struct Few {
+    pub more: u64,
+    pub count: usize,
+    pub bits: u64,
+}
+
+// n where the flag is 1, and 0 where it is 0. No branch.
+fn gated(flag: u64, n: u64) -> u64
+    requires { ⌜ flag ≤ 1 ⌝ }
+    ensures { λ r. ⌜ (r ≡ gate flag n) × (r ≤ n) ⌝ }
+{
+    flag * n
+}
+
+// One octet more, of which a bit is worth `worth`.
+fn and_octet(f: Few, worth: u64, b: u8) -> Few
+    requires { ⌜ (f .more ≤ 1) × (f .count < 8) × (f .bits < 2 ^ 32) × (worth < 2 ^ 32) ⌝ }
+    ensures { λ r. ⌜ Also f worth b r ⌝ }
+{
+    let more = f.more;
+    Few {
+        more: gated(more, (b / 128) as u64),
+        count: f.count + more as usize,
+        bits: f.bits + worth * gated(more, (b % 128) as u64),
+    }
+}
+
+// The integer at `at`: its first octet, and the bits of the octets after it, of which `last` is the last.
+fn joined(at: usize, first: u8, bits: u64, last: u8, next: usize, bound: u64) -> Magnitude
+    requires { ⌜ bound % 64 ≡ 0 ⌝ }
+    ensures { λ r. ⌜ r ≡ joinedOf at first bits last next bound ⌝ }
+{
+    if last == 0 {
+        return Magnitude::Ill(Refusal {
+            place: at,
+            number: 3,
+        });
+    }
+    if bits < bound / 64 {
+        return Magnitude::Mag(next, ((first % 64) as u64) + 64 * bits);
+    }
+    Magnitude::Ill(Refusal {
+        place: at,
+        number: 3,
+    })
+}
+
+// The integer at `at`, whose first octet is continued, octet by octet.
+fn long_at(src: &[u8], at: usize, first: u8, more: usize, bound: u64) -> Magnitude
+    requires { ⌜ (at < length (now src)) × (more ≤ 9) × (bound % 64 ≡ 0) ⌝ }
+    ensures { λ r. ⌜ Tail more bound (now (src .entry)) at first r ⌝ }
+{
+    let mut bits: u64 = 0;
+    let mut scale: u64 = 1;
+    let mut next = at + 1;
+    let mut left = more;
+    while 0 < left {
+        if src.len() <= next {
+            return Magnitude::Ill(Refusal {
+                place: next,
+                number: 1,
+            });
+        }
+        let b = src[next];
+        next += 1;
+        if b < 128 {
+            return joined(at, first, bits + scale * (b as u64), b, next, bound);
+        }
+        bits += scale * ((b % 128) as u64);
+        scale *= 128;
+        left -= 1;
+    }
+    Magnitude::Ill(Refusal {
+        place: at,
+        number: 3,
+    })
+}
+
+// The four octets after the one at `at`.
+fn few_at(src: &[u8], at: usize) -> Few
+    requires { ⌜ at + 5 ≤ length (now src) ⌝ }
+    ensures { λ r. ⌜ FewAt (now (src .entry)) at r ⌝ }
+{
+    let none = Few {
+        more: 1,
+        count: 0,
+        bits: 0,
+    };
+    let one = and_octet(none, 1, src[at + 1]);
+    let two = and_octet(one, 128, src[at + 2]);
+    let three = and_octet(two, 16384, src[at + 3]);
+    and_octet(three, 2097152, src[at + 4])
+}
+
+// The same, at once where five octets are there and hold it.
+fn tail_at(src: &[u8], at: usize, first: u8, more: usize, bound: u64) -> Magnitude
+    requires { ⌜ (at < length (now src)) × (4 ≤ more) × (more ≤ 9) × (bound % 64 ≡ 0) ⌝ }
+    ensures { λ r. ⌜ Tail more bound (now (src .entry)) at first r ⌝ }
+{
+    if 5 <= src.len() - at {
+        let f = few_at(src, at);
+        let count = f.count;
+        if f.more == 0 {
+            return joined(at, first, f.bits, src[at + count], at + count + 1, bound);
+        }
+    }
+    long_at(src, at, first, more, bound)
+}
+
+// n, or -1 - n.
+fn signed32(positive: bool, n: u64) -> i32
+    requires { ⌜ n < 2 ^ 31 ⌝ }
+    ensures { λ r. ⌜ r ≡ sign positive n ⌝ }
+{
+    let v = n as i32;
+    if positive {
+        return v;
+    }
+    !v
+}
+
+fn signed64(positive: bool, n: u64) -> i64
+    requires { ⌜ n < 2 ^ 63 ⌝ }
+    ensures { λ r. ⌜ r ≡ sign positive n ⌝ }
+{
+    let v = n as i64;
+    if positive {
+        return v;
+    }
+    !v
+}
+
+// The 32-bit integer at a place.
+pub fn int32_at(src: &[u8], at: usize) -> Read32
+    ensures { λ r. ⌜ Reads32 (now (src .entry)) at r ⌝ }
+{
+    if src.len() <= at {
+        return Read32::Refused32(Refusal {
+            place: at,
+            number: 1,
+        });
+    }
+    let b = src[at];
+    if b < 128 {
+        return Read32::Int32(at + 1, signed32(b % 128 < 64, (b % 64) as u64));
+    }
+    match tail_at(src, at, b, 4, 2147483648) {
+        Magnitude::Mag(next, n) => Read32::Int32(next, signed32(b % 128 < 64, n)),
+        Magnitude::Ill(r) => Read32::Refused32(r),
+    }
+}
+
+// The 64-bit integer at a place.
+pub fn int64_at(src: &[u8], at: usize) -> Read64
+    ensures { λ r. ⌜ Reads64 (now (src .entry)) at r ⌝ }
+{
+    if src.len() <= at {
+        return Read64::Refused64(Refusal {
+            place: at,
+            number: 1,
+        });
+    }
+    let b = src[at];
+    if b < 128 {
+        return Read64::Int64(at + 1, signed64(b % 128 < 64, (b % 64) as u64));
+    }
+    match tail_at(src, at, b, 9, 9223372036854775808) {
+        Magnitude::Mag(next, n) => Read64::Int64(next, signed64(b % 128 < 64, n)),
+        Magnitude::Ill(r) => Read64::Refused64(r),
+    }
+}
+
+// ---- Writing ----
+
+// n of an integer, both of n and of -1 - n.
+fn magnitude_of(v: i64) -> u64
+    ensures { λ r. ⌜ r ≡ mag v ⌝ }
+{
+    if v < 0 {
+        return (!v) as u64;
+    }
+    v as u64
+}
+
+// The sign bit of an integer's first octet.
+fn sign_bit(v: i64) -> u8
+    ensures { λ r. ⌜ r ≡ signBit v ⌝ }
+{
+    if v < 0 {
+        return 64;
+    }
+    0
+}
+
+// How many octets an integer takes.
+pub fn octets_of(v: i64) -> usize
+    ensures { λ r. ⌜ r ≡ length (spellInt v) ⌝ }
+{
+    let n = magnitude_of(v);
+    if n < 64 {
+        return 1;
+    }
+    let mut m = n / 64;
+    let mut count: usize = 2;
+    while 128 <= m {
+        m /= 128;
+        count += 1;
+    }
+    count
+}
+
+// Writes the octets after the first from a place on: seven bits, and the rest the same way.
+fn put_rest(out: &mut [u8], at: usize, n: u64) -> usize
+    requires { ⌜ Room (groups n) at (now out) ⌝ }
+    ensures { λ r. ⌜ Wrote (groups n) at (now (out .entry)) r (now (out .exit)) ⌝ }
+{
+    if n < 128 {
+        out[at] = n as u8;
+        return at + 1;
+    }
+    out[at] = (n % 128 + 128) as u8;
+    put_rest(out, at + 1, n / 128)
+}
+
+// Writes n with a sign bit from a place on.
+fn put(out: &mut [u8], at: usize, bit: u8, n: u64) -> usize
+    requires { ⌜ (bit ≤ 64) × (Room (spellWith bit n) at (now out)) ⌝ }
+    ensures { λ r. ⌜ Wrote (spellWith bit n) at (now (out .entry)) r (now (out .exit)) ⌝ }
+{
+    if n < 64 {
+        out[at] = bit + n as u8;
+        return at + 1;
+    }
+    out[at] = bit + 128 + (n % 64) as u8;
+    put_rest(out, at + 1, n / 64)
+}
+
+// Writes an integer from a place on, and gives the place past it.
+pub fn put_int(out: &mut [u8], at: usize, v: i64) -> usize
+    requires { ⌜ Room (spellInt v) at (now out) ⌝ }
+    ensures { λ r. ⌜ Wrote (spellInt v) at (now (out .entry)) r (now (out .exit)) ⌝ }
+{
+    put(out, at, sign_bit(v), magnitude_of(v))
+}

@@ -6,8 +6,7 @@ use Prim.Native.Nat.{ℕ, _+_}
 use native.Mathlib.Omega.{arith}
 use native.Mathlib.Nat.{add-zero}
 use lib.ListN.{length, length-append}
-use Rattle.reading.specs.Reading.{Env, State, Out, got, stop, Reader, follow, _>>=_, return, refuse, require, either, here, names, rename, octet, octetOf}
-
+use Rattle.reading.specs.Reading.{Env, State, got, Reader, _>>=_, return, require, either, here, names, rename, octet}
 
 pub record Does {A : Type 0} (p : Reader A) (e : Env) (u : List ℕ) (a : A) (e' : Env) : Type 0 where
   pub does : (at : ℕ) (r : List ℕ) → p (record { at = at; left = u ++ r; env = e }) ≡ got a (record { at = at + length u; left = r; env = e' })

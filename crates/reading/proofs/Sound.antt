@@ -42,12 +42,15 @@ module _ {A B : Type 0} {p : Reader A} {f : A → Reader B} {s : State} {R : A �
       by x (stop r) e b s₂ z = absurd (never z)
       by x (got a s₁) e b s₂ z =
           let t = h .sound x a s₁ e in
-          let w = (k a s₁ (t .0) (t .2)) .sound (octets-rest (t .0) (s₁ .left) (s .left) (t .1 .split) x) b s₂ z in
-          (t .0 ++ w .0, record
-            { split = t .1 .split ∙ ap (λ (l : List ℕ). t .0 ++ l) (w .1 .split) ∙ sym (append-assoc (t .0) (w .0) (s₂ .left))
-            ; moved = omega (arith, t .1 .moved, w .1 .moved, length-append (t .0) (w .0))
-            ; again = λ r. rw (append-assoc (t .0) (w .0) r, t .1 .again (w .0 ++ r), _>>=_) (w .1 .again r)
-            }, w .2)
+          let w = (k a s₁ (t .0) (t .2)) .sound (octets-rest (t .0) (s₁ .left) (s .left) (t .1 .split) x) b s₂ z in (
+            t .0 ++ w .0,
+            record {
+              split = t .1 .split ∙ ap (λ (l : List ℕ). t .0 ++ l) (w .1 .split) ∙ sym (append-assoc (t .0) (w .0) (s₂ .left));
+              moved = omega (arith, t .1 .moved, w .1 .moved, length-append (t .0) (w .0));
+              again = λ r. rw (append-assoc (t .0) (w .0) r, t .1 .again (w .0 ++ r), _>>=_) (w .1 .again r);
+            },
+            w .2,
+          )
 
 module _ {A : Type 0} {s : State} {Q : A → State → List ℕ → Type 0} where
   pub s-stop : (n p : ℕ) → Sound (refuse n p) s Q

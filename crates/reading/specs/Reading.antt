@@ -16,8 +16,8 @@ pub record Env : Type 0 where
   pub ended : List ℕ
 
 pub record State : Type 0 where
-  pub at : ℕ            -- the place
-  pub left : List ℕ     -- the octets from there on
+  pub at : ℕ  -- the place
+  pub left : List ℕ  -- the octets from there on
   pub env : Env
 
 pub data Out (A : Type 0) : Type 0 where
@@ -29,7 +29,6 @@ Reader A = State → Out A
 
 infixl 1 _>>=_
 infixl 1 _>>_
-
 abbrev pub follow : {A B : Type 0} → Out A → (A → Reader B) → Out B
 follow (got a s) f = f a s
 follow (stop r) f = stop r

@@ -1,0 +1,97 @@
+-- What the answers of the code say, as readings at a place.
+use mathlib.Core.Path.{_≡_}
+use mathlib.Core.Bool.{cond}
+use mathlib.Core.List.{List}
+use Prim.Native.Nat.{ℕ, _+_, _*_, _/_, _%_, _<_, _≤_}
+use lib.ListN.{length, getD}
+use lib.Dec.{ltb, eqb}
+use lib.IntN.{ℤ}
+use Rattle.reading.specs.Reading.{Env, Out, got, stop, Reader, refusal, stand, _>>=_, _>>_, return, require}
+use Rattle.integer.specs.Packed.{Width, wide32, wide64, further, integer}
+use Rattle.integer.specs.declared.Few.{Few}
+use Rattle.integer.specs.declared.Magnitude.{Magnitude}
+use Rattle.integer.specs.declared.Magnitude.the-variants.{Mag, Ill}
+use Rattle.integer.specs.declared.Read32.{Read32}
+use Rattle.integer.specs.declared.Read32.the-variants.{Int32, Refused32}
+use Rattle.integer.specs.declared.Read64.{Read64}
+use Rattle.integer.specs.declared.Read64.the-variants.{Int64, Refused64}
+
+-- ---- the entries
+
+abbrev pub out32 : List ℕ → Env → Read32 → Out ℤ
+out32 o e (Int32 next z) = got z (stand o next e)
+out32 o e (Refused32 r) = stop r
+
+abbrev pub out64 : List ℕ → Env → Read64 → Out ℤ
+out64 o e (Int64 next z) = got z (stand o next e)
+out64 o e (Refused64 r) = stop r
+
+-- the place past an integer lies further on, and within the octets
+abbrev pub past32 : List ℕ → ℕ → Read32 → Type 0
+past32 o at (Int32 next z) = (at < next) × (next ≤ length o)
+past32 o at (Refused32 r) = Unit {0}
+
+abbrev pub past64 : List ℕ → ℕ → Read64 → Type 0
+past64 o at (Int64 next z) = (at < next) × (next ≤ length o)
+past64 o at (Refused64 r) = Unit {0}
+
+pub record Reads32 (o : List ℕ) (at : ℕ) (r : Read32) : Type 0 where
+  pub same : (e : Env) → out32 o e r ≡ integer wide32 (stand o at e)
+  pub past : past32 o at r
+
+pub record Reads64 (o : List ℕ) (at : ℕ) (r : Read64) : Type 0 where
+  pub same : (e : Env) → out64 o e r ≡ integer wide64 (stand o at e)
+  pub past : past64 o at r
+
+-- ---- the parts
+
+-- n of an integer that starts at p with the octet b, which is continued: the rest of `integer`
+unfoldable pub tail : Width → ℕ → ℕ → Reader ℕ
+tail w b p = do
+  m ← further (w .more) p
+  require (ltb (b % 64 + 64 * m) (w .bound)) 3 p
+  return (b % 64 + 64 * m)
+
+abbrev pub magOut : List ℕ → Env → Magnitude → Out ℕ
+magOut o e (Mag next n) = got n (stand o next e)
+magOut o e (Ill r) = stop r
+
+abbrev pub pastMag : List ℕ → ℕ → ℕ → Magnitude → Type 0
+pastMag o at bound (Mag next n) = (at < next) × (next ≤ length o) × (n < bound)
+pastMag o at bound (Ill r) = Unit {0}
+
+pub record Tail (more bound : ℕ) (o : List ℕ) (at b : ℕ) (r : Magnitude) : Type 0 where
+  pub same : (e : Env) → magOut o e r ≡ tail (record { bound = bound; more = more }) b at (stand o (at + 1) e)
+  pub past : pastMag o at bound r
+
+-- the first octet, and the bits of those after it, the last of which must not be 0
+abbrev pub joinedOf : ℕ → ℕ → ℕ → ℕ → ℕ → ℕ → Magnitude
+joinedOf at first bits last next bound =
+    cond (eqb last 0) (Ill (refusal 3 at))
+    (cond (ltb (first % 64 + 64 * bits) bound) (Mag next (first % 64 + 64 * bits)) (Ill (refusal 3 at)))
+
+-- n where the flag is 1, and 0 where it is 0
+abbrev pub gate : ℕ → ℕ → ℕ
+gate flag n = cond (eqb flag 1) n 0
+
+abbrev pub fewOf : ℕ → ℕ → ℕ → Few
+fewOf m k n = record { more = m; count = k; bits = n }
+
+-- one octet more, of which a bit is worth w
+abbrev pub also : Few → ℕ → ℕ → Few
+also f w b = cond (eqb (f .more) 1) (fewOf (b / 128) (f .count + 1) (f .bits + w * (b % 128))) f
+
+pub record Also (f : Few) (w b : ℕ) (r : Few) : Type 0 where
+  pub same : r ≡ also f w b
+  pub flag : r .more ≤ 1
+  pub few : r .count ≤ f .count + 1
+  pub held : r .bits ≤ f .bits + w * 127
+
+-- four octets
+abbrev pub few : ℕ → ℕ → ℕ → ℕ → Few
+few b1 b2 b3 b4 = also (also (also (also (fewOf 1 0 0) 1 b1) 128 b2) 16384 b3) 2097152 b4
+
+-- the four after a place
+pub record FewAt (o : List ℕ) (at : ℕ) (r : Few) : Type 0 where
+  pub same : r ≡ few (getD o (at + 1) 0) (getD o (at + 2) 0) (getD o (at + 3) 0) (getD o (at + 4) 0)
+  pub few-are : r .count ≤ 4
