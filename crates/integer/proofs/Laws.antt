@@ -14,7 +14,7 @@ use Rattle.reading.specs.Reading.{Env, _>>=_, return, either}
 use Rattle.reading.proofs.Sound.{s-bind, s-stop, s-either, s-here, s-require, s-ret, Leaf, s-leaf, octet-leaf}
 use Rattle.reading.proofs.Only.{Only, o-bind, o-stop, o-either, o-here, o-require, o-octet, o-ret, o-as}
 use Rattle.reading.proofs.Does.{Does, d-bind, d-here, d-require, d-octet, d-ret, d-as, d-either-true, d-either-false}
-use Rattle.integer.specs.Packed.{Width, wide32, wide64, further, sign, positive, integer, groups, spellInt}
+use Rattle.integer.specs.Packed.{Width, wide16, wide32, wide64, further, sign, positive, integer, groups, spellInt}
 use Rattle.integer.proofs.Spelling.{groups-last, groups-more, mag-sign, spelt-one, spelt-more, Spelt, one, more, spelt}
 
 -- ---- what is read
@@ -83,19 +83,20 @@ further-does (suc k) p n e h g = by (further-does k p (n / 128) e) (ltb n 128) r
         rw (groups-more n q) (d-octet (n % 128 + 128) _ (d-either-false _ _ _ (le-ltb (n % 128 + 128) 128 (omega arith)) (d-as (append-nil _) (omega arith) refl (d-bind _ (again (omega arith) (omega (arith, grows))) (d-ret _)))))
 
 -- the octets of a width are enough for its numbers
-pub Enough : Width → Type 0
+abbrev pub Enough : Width → Type 0
 Enough w = w .bound ≤ 64 * 128 ^ w .more
 
+pub enough16 : Enough wide16
+enough16 = lit≤ tt
+
 pub enough32 : Enough wide32
-unfolding Enough
 enough32 = lit≤ tt
 
 pub enough64 : Enough wide64
-unfolding Enough
 enough64 = lit≤ tt
 
 pub integer-does : (w : Width) → Enough w → (z : ℤ) (e : Env) → mag z < w .bound → Does (integer w) e (spellInt z) z e
-unfolding integer Enough
+unfolding integer
 integer-does w enough z e fits = by (spelt z)
   where
     rest : (b : ℕ) (l : List ℕ) → ((p : ℕ) → Does (either (ltb b 128) (return (b % 64)) (further (w .more) p >>= λ m. return (b % 64 + 64 * m))) e l (mag z) e) → sign (positive b) (mag z) ≡ z → Does (integer w) e (b ∷ l) z e

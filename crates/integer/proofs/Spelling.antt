@@ -2,7 +2,7 @@
 use mathlib.Core.Path.{_≡_, refl, sym, ap, _∙_, ap₂}
 use mathlib.Core.Bool.{Bool, true, false}
 use mathlib.Core.List.{List, [], _∷_}
-use Prim.Native.Nat.{ℕ, zero, suc, _+_, _*_, _/_, _%_, _^_, _<_, _≤_}
+use Prim.Native.Nat.{ℕ, zero, suc, _+_, _-_, _*_, _/_, _%_, _^_, _<_, _≤_}
 use native.Mathlib.Omega.{arith}
 use native.Mathlib.Nat.{pow-suc}
 use lib.ListN.{length}
@@ -151,3 +151,17 @@ counted-last {m₀} {m} {count} k h = omega (arith, ap length (groups-last m h),
 pub signBit-le : (z : ℤ) → signBit z ≤ 64
 signBit-le (pos n) = lit≤ tt
 signBit-le (negsuc n) = lit≤ tt
+
+-- an integer of one octet, by its sign
+pub one-positive : (b : ℕ) → b < 64 → pos b ≡ sign (positive b) (b % 64)
+one-positive b h = ap pos (omega arith) ∙ sym (sign-yes b (b % 64) (omega arith))
+
+pub one-negative : (b : ℕ) → 64 ≤ b → b < 128 → negsuc (b - 64) ≡ sign (positive b) (b % 64)
+one-negative b h g = ap negsuc (omega arith) ∙ sym (sign-no b (b % 64) (omega arith))
+
+-- and one of several
+pub more-positive : (b n : ℕ) → 128 ≤ b → b < 192 → pos n ≡ sign (positive b) n
+more-positive b n h g = sym (sign-yes b n (omega arith))
+
+pub more-negative : (b n : ℕ) → 192 ≤ b → b < 256 → negsuc n ≡ sign (positive b) n
+more-negative b n h g = sym (sign-no b n (omega arith))

@@ -2,10 +2,10 @@
 use mathlib.Core.Path.{_≡_}
 use mathlib.Core.Bool.{cond}
 use mathlib.Core.List.{List}
-use Prim.Native.Nat.{ℕ, _+_, _*_, _/_, _%_, _<_, _≤_}
+use Prim.Native.Nat.{ℕ, _+_, _*_, _/_, _%_, _<_, _≤_, _^_}
 use lib.ListN.{length, getD}
 use lib.Dec.{ltb, eqb}
-use lib.IntN.{ℤ}
+use lib.IntN.{ℤ, pos, negsuc}
 use Rattle.reading.specs.Reading.{Env, Out, got, stop, Reader, refusal, stand, _>>=_, _>>_, return, require}
 use Rattle.integer.specs.Packed.{Width, wide32, wide64, further, integer}
 use Rattle.integer.specs.declared.Few.{Few}
@@ -13,6 +13,8 @@ use Rattle.integer.specs.declared.Magnitude.{Magnitude}
 use Rattle.integer.specs.declared.Magnitude.the-variants.{Mag, Ill}
 use Rattle.integer.specs.declared.Read32.{Read32}
 use Rattle.integer.specs.declared.Read32.the-variants.{Int32, Refused32}
+use Rattle.integer.specs.declared.Signed.{Signed}
+use Rattle.integer.specs.declared.Signed.the-variants.{Positive, Negative, Faulty}
 use Rattle.integer.specs.declared.Read64.{Read64}
 use Rattle.integer.specs.declared.Read64.the-variants.{Int64, Refused64}
 
@@ -42,6 +44,20 @@ pub record Reads32 (o : List ℕ) (at : ℕ) (r : Read32) : Type 0 where
 pub record Reads64 (o : List ℕ) (at : ℕ) (r : Read64) : Type 0 where
   pub same : (e : Env) → out64 o e r ≡ integer wide64 (stand o at e)
   pub past : past64 o at r
+
+abbrev pub outSigned : List ℕ → Env → Signed → Out ℤ
+outSigned o e (Positive next n) = got (pos n) (stand o next e)
+outSigned o e (Negative next n) = got (negsuc n) (stand o next e)
+outSigned o e (Faulty r) = stop r
+
+abbrev pub pastSigned : List ℕ → ℕ → Signed → Type 0
+pastSigned o at (Positive next n) = (at < next) × (next ≤ length o) × (n < 2 ^ 31)
+pastSigned o at (Negative next n) = (at < next) × (next ≤ length o) × (n < 2 ^ 31)
+pastSigned o at (Faulty r) = Unit {0}
+
+pub record ReadsSigned (o : List ℕ) (at : ℕ) (r : Signed) : Type 0 where
+  pub same : (e : Env) → outSigned o e r ≡ integer wide32 (stand o at e)
+  pub past : pastSigned o at r
 
 -- ---- the parts
 

@@ -4,7 +4,7 @@ ghost use lib.ListN.{length};
 ghost use lib.Signed.{mag};
 ghost use Rattle.integer.specs.Packed.{sign, groups, spellWith, signBit, spellInt};
 ghost use Rattle.integer.specs.Writes.{Room, Wrote};
-ghost use Rattle.integer.specs.Answers.{gate, Also, FewAt, joinedOf, Tail, Reads32, Reads64};
+ghost use Rattle.integer.specs.Answers.{gate, Also, FewAt, joinedOf, Tail, Reads32, ReadsSigned, Reads64};
 use reading::Refusal;
 
 // ---- Reading ----
@@ -19,6 +19,13 @@ pub enum Magnitude {
 pub enum Read32 {
     Int32(usize, i32),
     Refused32(Refusal),
+}
+
+// A 32-bit integer by its sign, as n of n or of -1 - n, with the place past it; or a refusal.
+pub enum Signed {
+    Positive(usize, u32),
+    Negative(usize, u32),
+    Faulty(Refusal),
 }
 
 // A 64-bit integer with the place past it, or a refusal.
@@ -177,6 +184,34 @@ pub fn int32_at(src: &[u8], at: usize) -> Read32
     match tail_at(src, at, b, 4, 2147483648) {
         Magnitude::Mag(next, n) => Read32::Int32(next, signed32(b % 128 < 64, n)),
         Magnitude::Ill(r) => Read32::Refused32(r),
+    }
+}
+
+// The 32-bit integer at a place, by its sign.
+pub fn signed_at(src: &[u8], at: usize) -> Signed
+    ensures { λ r. ⌜ ReadsSigned (now (src .entry)) at r ⌝ }
+{
+    if src.len() <= at {
+        return Signed::Faulty(Refusal {
+            place: at,
+            number: 1,
+        });
+    }
+    let b = src[at];
+    if b < 64 {
+        return Signed::Positive(at + 1, b as u32);
+    }
+    if b < 128 {
+        return Signed::Negative(at + 1, (b - 64) as u32);
+    }
+    match tail_at(src, at, b, 4, 2147483648) {
+        Magnitude::Mag(next, n) => {
+            if b < 192 {
+                return Signed::Positive(next, n as u32);
+            }
+            Signed::Negative(next, n as u32)
+        }
+        Magnitude::Ill(r) => Signed::Faulty(r),
     }
 }
 
