@@ -1,0 +1,44 @@
+use Rattle.decide.proofs.Elements.{amount-positive, amount-negative, amount-faulty}
+use borrow.Author.Needs.{needs}
+use Rattle.decide.proofs.amount_at.Statement.{statement}
+use Rattle.decide.proofs.amount_at.Tie as tie
+
+-- src/lib.rt:107:11
+signed-at-requires : tie.Need-signed-at-requires
+signed-at-requires c κs = search needs
+
+-- src/lib.rt:108:26
+enum-known-next : tie.Need-enum-known-next
+enum-known-next c = search needs
+
+-- src/lib.rt:109:52
+enum-told : tie.Need-enum-told
+enum-told c = search needs
+
+-- src/lib.rt:113:24
+enum-known-r : tie.Need-enum-known-r
+enum-known-r c = search needs
+
+-- src/lib.rt:104:1
+returns : tie.Need-returns
+returns c = amount-positive (c .before .before .before .signed-at .ensures) (c .before .next .given .1)
+
+-- src/lib.rt:104:1
+returns-2 : tie.Need-returns-2
+returns-2 c = amount-negative (c .before .before .signed-at .ensures) (c .enum-told .given .1)
+
+-- src/lib.rt:104:1
+returns-3 : tie.Need-returns-3
+returns-3 c = amount-faulty (c .before .before .before .signed-at .ensures) (c .before .r .given .1)
+
+pub amount-at-spec : {M : Type 1} → statement M
+amount-at-spec =
+    tie.close
+    (tie.spec
+    signed-at-requires
+    enum-known-next
+    enum-told
+    enum-known-r
+    returns
+    returns-2
+    returns-3)

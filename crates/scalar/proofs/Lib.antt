@@ -1,0 +1,12 @@
+pub mod Signed
+pub mod Tests
+pub mod Passing
+pub mod Integers
+pub mod Octets
+pub mod Chars
+pub mod Character
+pub mod Text
+pub mod Values
+pub mod Wider
+pub mod Dates
+pub mod Moments
