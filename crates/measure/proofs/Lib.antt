@@ -1,0 +1,12 @@
+pub mod Turns
+pub mod Counts
+pub mod Passing
+pub mod Ids
+pub mod Data
+pub mod Plans
+pub mod Types
+pub mod Naming
+pub mod Heads
+pub mod Values
+pub mod Cycle
+pub mod Entries

@@ -1,0 +1,87 @@
+-- The plan for a value, from its type and its data.
+use mathlib.Core.Path.{_≡_, refl, sym, ap, subst, _∙_}
+use mathlib.Core.Bool.{Bool}
+use mathlib.Core.List.{List}
+use Prim.Native.Nat.{ℕ, suc, _+_, _≤_}
+use native.Mathlib.Omega.{arith}
+use lib.ListN.{length}
+use lib.IntN.{ℤ}
+use Rattle.reading.specs.declared.Refusal.{Refusal}
+use Rattle.reading.specs.Reading.{State, Out, got, stop, stand, follow, _>>=_, return}
+use Rattle.format.specs.Types.{Parts}
+use Rattle.format.specs.Data.{moment}
+use Rattle.format.specs.Values.{Value, dataOf}
+use Rattle.format.specs.Rows.{count}
+use Rattle.scalar.specs.declared.Moment.{Moment}
+use Rattle.scalar.specs.declared.Moment.the-variants.{Unfit, Parts as Counted}
+use Rattle.scalar.specs.declared.Which.{Which}
+use Rattle.scalar.specs.Answers.{momentOut, momentPast, Passing}
+use Rattle.scalar.specs.Moments.{partsOf, countOf}
+use Rattle.decide.specs.declared.Class.{Class}
+use Rattle.decide.specs.declared.Class.the-variants.{Parts as Parted}
+use Rattle.decide.specs.Classes.{leastOf}
+use Rattle.measure.specs.declared.Stand.{Stand}
+use Rattle.measure.specs.declared.Head.{Head}
+use Rattle.measure.specs.declared.Head.the-variants.{Typing, Odd}
+use Rattle.measure.specs.declared.Plan.{Plan}
+use Rattle.measure.specs.declared.Plan.the-variants.{Refuse, Single, Inner as Nested}
+use Rattle.measure.specs.Identities.{envOf}
+use Rattle.measure.specs.Tally.{valueRows}
+use Rattle.measure.specs.Plans.{PlanIs, momentPlan, DataPlan, HeadIs, HeadAt, ValuePlan}
+use Rattle.measure.proofs.Data.{dated-rows}
+use Rattle.measure.proofs.Plans.{judged-silent}
+
+-- ---- dates and times
+
+counted-one : (d : Parts) (s : State) (x : Out ℕ) → x ≡ countOf d s → (moment d >>= λ l. return (1 + length l)) s ≡ follow x (λ n. return (1 + n))
+unfolding _>>=_ return
+counted-one d s x e = rw e (by (moment d s))
+  where
+    by : (y : Out (List ℤ)) → follow y (λ l. return (1 + length l)) ≡ follow (follow y (λ l. return (length l))) (λ n. return (1 + n))
+    by (got l t) = refl
+    by (stop r) = refl
+
+pub moment-plan : {o l : List ℕ} {once : Bool} {at p : ℕ} {d : Which} {m : Moment} {w : Plan} → Passing o at 10 (countOf (partsOf d)) m → w ≡ momentPlan m → DataPlan o l (Parted d) once at p w
+unfolding return
+moment-plan {o} {l} {once} {at} {p} {d} {m} h e = rw e record {
+  plan = λ t own i. by m (h .past)
+      (λ lv. judged-silent (dataOf (suc lv)) once t own p (stand o at (envOf l)) _ i refl refl ∙ dated-rows lv t own p (stand o at (envOf l)) i ∙ counted-one (partsOf d) (stand o at (envOf l)) _ (h .same (envOf l)));
+}
+  where
+    by : {rows : ℕ → Out ℕ} (m : Moment) → momentPast o at 10 m → ((lv : ℕ) → rows lv ≡ follow (momentOut o (envOf l) m) (λ n. return (1 + n))) → PlanIs o l (at + 1) rows (momentPlan m)
+    by (Counted next n) q k = (omega (arith, q .0), q .1, q .2, λ lv. k lv ∙ ap (λ (m : ℕ). got m (stand o next (envOf l))) (omega arith))
+    by (Unfit r) q k = k
+
+-- ---- a class, and a plan, said another way
+
+pub as-class : {o l : List ℕ} {c k : Class} {once : Bool} {at p : ℕ} {r : Plan} → c ≡ k → DataPlan o l k once at p r → DataPlan o l c once at p r
+as-class {o} {l} {once} {at} {p} {r} e d = subst (λ (x : Class). DataPlan o l x once at p r) (sym e) d
+
+plan-as : (o l : List ℕ) (a b : ℕ) (rows more : ℕ → Out ℕ) (r : Plan) → a ≤ b → ((lv : ℕ) → more lv ≡ rows lv) → PlanIs o l b rows r → PlanIs o l a more r
+plan-as o l a b rows more (Refuse x) h e p = λ lv. e lv ∙ p lv
+plan-as o l a b rows more (Single next n) h e p = (omega (arith, p .0), p .1, p .2, λ lv. e lv ∙ p .3 lv)
+plan-as o l a b rows more (Nested n) h e p = record {
+  form-is = p .form-is;
+  other-is = p .other-is;
+  form-stands = p .form-stands;
+  other-stands = p .other-stands;
+  one-form = p .one-form;
+  further = omega (arith, p .further);
+  within = p .within;
+  room = p .room;
+  counted = λ lv. e lv ∙ p .counted lv;
+}
+
+-- ---- the value
+
+pub value-odd : {o l : List ℕ} {w : Stand} {at : ℕ} {x : Head} {r : Refusal} → HeadAt o w at x → x ≡ Odd r → ValuePlan o l w at (Refuse r)
+unfolding valueRows _>>=_
+value-odd {o} {l} {w} {at} h e = record { plan = λ f s lv. ap (λ (y : Out Value). follow y (λ v. return (suc (count (v .inside))))) (subst (HeadIs o f at) e (h .is f s) (dataOf (suc lv)) (envOf l)) }
+
+pub value-typed : {o l : List ℕ} {w : Stand} {at from : ℕ} {c : Class} {once : Bool} {x : Head} {r : Plan} → HeadAt o w at x → x ≡ Typing from c once → DataPlan o l c once from at r → ValuePlan o l w at r
+unfolding valueRows _>>=_
+value-typed {o} {l} {w} {at} {from} {c} {once} {r} h e d = record {
+  plan = λ f s.
+      let q = subst (HeadIs o f at) e (h .is f s) in
+      plan-as o l (at + 1) (from + leastOf c) _ _ r (omega (arith, q .5)) (λ lv. ap (λ (y : Out Value). follow y (λ v. return (suc (count (v .inside))))) (q .6 (dataOf (suc lv)) (envOf l))) (d .plan (q .0) (q .1) (q .2));
+}

@@ -1,0 +1,81 @@
+use mathlib.Core.Path.{subst}
+use Rattle.measure.specs.Plans.{TypeIs}
+use Rattle.measure.proofs.Types.{holder-alien, holder-alien-2, holder-none, holder-nest}
+use borrow.Author.Needs.{needs}
+use Rattle.measure.proofs.holder_plan.Statement.{statement}
+use Rattle.measure.proofs.holder_plan.Tie as tie
+
+-- src/lib.rt:234:11
+type-at-requires : tie.Need-type-at-requires
+type-at-requires c κs = search needs
+
+-- src/lib.rt:235:22
+enum-known-r : tie.Need-enum-known-r
+enum-known-r c = search needs
+
+-- src/lib.rt:236:21
+enum-known-at2 : tie.Need-enum-known-at2
+enum-known-at2 c = search needs
+
+-- src/lib.rt:236:41
+type-at-requires-2 : tie.Need-type-at-requires-2
+type-at-requires-2 c κs = subst (TypeIs _ _ _) (c .before .at2 .given .1) (c .before .before .before .type-at .ensures .is) .3
+
+-- src/lib.rt:237:26
+enum-known-r-2 : tie.Need-enum-known-r-2
+enum-known-r-2 c = search needs
+
+-- src/lib.rt:238:25
+enum-known-at3 : tie.Need-enum-known-at3
+enum-known-at3 c = search needs
+
+-- src/lib.rt:238:46
+amount-at-requires : tie.Need-amount-at-requires
+amount-at-requires c κs = search needs
+
+-- src/lib.rt:239:34
+enum-known-r-3 : tie.Need-enum-known-r-3
+enum-known-r-3 c = search needs
+
+-- src/lib.rt:240:32
+enum-known-from : tie.Need-enum-known-from
+enum-known-from c = search needs
+
+-- src/lib.rt:240:56
+nest-of-requires : tie.Need-nest-of-requires
+nest-of-requires c κs = search needs
+
+-- src/lib.rt:227:1
+returns : tie.Need-returns
+returns c = holder-alien _ _ _ (c .before .before .before .type-at .ensures) (c .before .r .given .1)
+
+-- src/lib.rt:227:1
+returns-2 : tie.Need-returns-2
+returns-2 c = holder-alien-2 _ _ _ (c .before .before .before .before .before .before .before .type-at .ensures) (c .before .before .before .before .before .at2 .given .1) (c .before .before .before .type-at2 .ensures) (c .before .r2 .given .1)
+
+-- src/lib.rt:227:1
+returns-3 : tie.Need-returns-3
+returns-3 c = holder-none _ _ _ (c .before .before .before .before .before .before .before .before .before .before .before .type-at .ensures) (c .before .before .before .before .before .before .before .before .before .at2 .given .1) (c .before .before .before .before .before .before .before .type-at2 .ensures) (c .before .before .before .before .before .at3 .given .1) (c .before .before .before .amount-at .ensures) (c .before .r3 .given .1)
+
+-- src/lib.rt:227:1
+returns-4 : tie.Need-returns-4
+returns-4 c = holder-nest _ _ _ (c .before .before .before .before .before .before .before .before .before .before .before .before .type-at .ensures) (c .before .before .before .before .before .before .before .before .before .before .at2 .given .1) (c .before .before .before .before .before .before .before .before .type-at2 .ensures) (c .before .before .before .before .before .before .at3 .given .1) (c .before .before .before .before .amount-at .ensures) (c .before .before .from .given .1) (c .nest-of .ensures)
+
+pub holder-plan-spec : {M : Type 1} → statement M
+holder-plan-spec =
+    tie.close
+    (tie.spec
+    type-at-requires
+    enum-known-r
+    enum-known-at2
+    type-at-requires-2
+    enum-known-r-2
+    enum-known-at3
+    amount-at-requires
+    enum-known-r-3
+    enum-known-from
+    nest-of-requires
+    returns
+    returns-2
+    returns-3
+    returns-4)

@@ -1,0 +1,6 @@
+pub mod Tally
+pub mod Gates
+pub mod Identities
+pub mod Plans
+pub mod Cycle
+pub mod Entries
