@@ -1,0 +1,160 @@
+-- Rows stored one after another.
+use mathlib.Core.Path.{_≡_, refl, sym, ap, _∙_}
+use mathlib.Core.Bool.{Bool, true, false, cond}
+use mathlib.Core.List.{List, [], _∷_, _++_, map}
+use Prim.Native.Nat.{ℕ, suc, _+_, _≤_, _<_}
+use native.Mathlib.Omega.{arith}
+use native.Mathlib.Nat.{add-zero}
+use native.Mathlib.Numerals.{add-one}
+use borrow.Author.Tests.{lt-ltb}
+use lib.ListN.{length, set, drop, take, length-map, take-append-drop}
+use lib.Seq.{set-comm, take-suc, append-snoc, set-at, length-take-le}
+use lib.Dec.{ltb}
+use lib.IntN.{ℤ}
+use Rattle.format.specs.declared.Row.{Row}
+use Rattle.format.specs.Writing.{Table}
+use Rattle.fill.specs.Columns.{Roomy, Kept, put, putRow, puts, over, Filled}
+
+pub kept-same : {t : Table} → Kept t t
+kept-same = record { ty-kept = refl; own-kept = refl; label-kept = refl; number-kept = refl; first-kept = refl; second-kept = refl; place-kept = refl; below-kept = refl; start-kept = refl; end-kept = refl }
+
+pub kept-trans : {t u v : Table} → Kept t u → Kept u v → Kept t v
+kept-trans a b = record { ty-kept = a .ty-kept ∙ b .ty-kept; own-kept = a .own-kept ∙ b .own-kept; label-kept = a .label-kept ∙ b .label-kept; number-kept = a .number-kept ∙ b .number-kept; first-kept = a .first-kept ∙ b .first-kept; second-kept = a .second-kept ∙ b .second-kept; place-kept = a .place-kept ∙ b .place-kept; below-kept = a .below-kept ∙ b .below-kept; start-kept = a .start-kept ∙ b .start-kept; end-kept = a .end-kept ∙ b .end-kept }
+
+pub roomy : {lim : ℕ} {t u : Table} → Kept t u → Roomy lim u → Roomy lim t
+roomy ks r = record { ty-room = rw (ks .ty-kept) (r .ty-room); own-room = rw (ks .own-kept) (r .own-room); label-room = rw (ks .label-kept) (r .label-room); number-room = rw (ks .number-kept) (r .number-room); first-room = rw (ks .first-kept) (r .first-room); second-room = rw (ks .second-kept) (r .second-room); place-room = rw (ks .place-kept) (r .place-room); below-room = rw (ks .below-kept) (r .below-room); start-room = rw (ks .start-kept) (r .start-room); end-room = rw (ks .end-kept) (r .end-room) }
+
+-- ---- the order of storing does not matter
+
+put-comm : {A : Type 0} (lim : ℕ) (l : List A) (i j : ℕ) (a b : A) → (i ≡ j → ⊥) → put lim (put lim l i a) j b ≡ put lim (put lim l j b) i a
+put-comm lim l i j a b ne = by (ltb i lim) (ltb j lim)
+  where
+    by : (p q : Bool) → cond q (set (cond p (set l i a) l) j b) (cond p (set l i a) l) ≡ cond p (set (cond q (set l j b) l) i a) (cond q (set l j b) l)
+    by true true = set-comm l i j a b ne
+    by true false = refl
+    by false true = refl
+    by false false = refl
+
+same-table : {ty ty' : List ℤ} {own own' : List ℕ} {label label' : List ℕ} {number number' : List ℤ} {first first' : List ℤ} {second second' : List ℤ} {place place' : List ℕ} {below below' : List ℕ} {start start' : List ℕ} {end end' : List ℕ} → ty ≡ ty' → own ≡ own' → label ≡ label' → number ≡ number' → first ≡ first' → second ≡ second' → place ≡ place' → below ≡ below' → start ≡ start' → end ≡ end'
+    → _≡_ {A = Table} (record { ty = ty; own = own; label = label; number = number; first = first; second = second; place = place; below = below; start = start; end = end })
+    (record { ty = ty'; own = own'; label = label'; number = number'; first = first'; second = second'; place = place'; below = below'; start = start'; end = end' })
+same-table p0 p1 p2 p3 p4 p5 p6 p7 p8 p9 = rw (p0, p1, p2, p3, p4, p5, p6, p7, p8, p9)
+
+row-comm : (lim : ℕ) (t : Table) (i j : ℕ) (a b : Row) → (i ≡ j → ⊥) → putRow lim (putRow lim t i a) j b ≡ putRow lim (putRow lim t j b) i a
+unfolding putRow
+row-comm lim t i j a b ne = same-table
+    (put-comm lim (t .ty) i j (a .ty) (b .ty) ne)
+    (put-comm lim (t .own) i j (a .own) (b .own) ne)
+    (put-comm lim (t .label) i j (a .label) (b .label) ne)
+    (put-comm lim (t .number) i j (a .number) (b .number) ne)
+    (put-comm lim (t .first) i j (a .first) (b .first) ne)
+    (put-comm lim (t .second) i j (a .second) (b .second) ne)
+    (put-comm lim (t .place) i j (a .place) (b .place) ne)
+    (put-comm lim (t .below) i j (a .below) (b .below) ne)
+    (put-comm lim (t .start) i j (a .start) (b .start) ne)
+    (put-comm lim (t .end) i j (a .end) (b .end) ne)
+
+puts-comm : (lim : ℕ) (t : Table) (i j : ℕ) (a : Row) (rs : List Row) → i < j → puts lim (putRow lim t i a) j rs ≡ putRow lim (puts lim t j rs) i a
+unfolding puts
+puts-comm lim t i j a [] h = refl
+puts-comm lim t i j a (r ∷ rs) h =
+    let q : i < j + 1 = omega arith in
+    let n : i ≡ j → ⊥ = λ e. omega arith in
+    ap (λ (u : Table). putRow lim u j r) (puts-comm lim t i (j + 1) a rs q) ∙ row-comm lim (puts lim t (j + 1) rs) i j a r n
+
+pub puts-append : (lim : ℕ) (t : Table) (k : ℕ) (xs ys : List Row) → puts lim (puts lim t k xs) (k + length xs) ys ≡ puts lim t k (xs ++ ys)
+unfolding puts
+puts-append lim t k [] ys = rw add-zero
+puts-append lim t k (a ∷ xs) ys =
+    let e : k + suc (length xs) ≡ k + 1 + length xs = omega arith in
+    let h : k < k + 1 + length xs = omega arith in
+    rw (e, puts-comm lim (puts lim t (k + 1) xs) k (k + 1 + length xs) a ys h, puts-append lim t (k + 1) xs ys)
+
+-- ---- what they come to in each column
+
+module _ {A : Type 0} where
+  abbrev putsIn : ℕ → List A → ℕ → List A → List A
+  putsIn lim l k [] = l
+  putsIn lim l k (v ∷ vs) = put lim (putsIn lim l (k + 1) vs) k v
+
+  set-next : (l ys : List A) (k : ℕ) (v : A) → k < length l → set (take (k + 1) l ++ ys) k v ≡ take k l ++ v ∷ ys
+  set-next l ys k v h =
+      let e : length (take k l) ≡ k = length-take-le k l (omega arith) in
+      rw (add-one, take-suc l k v h, append-snoc) (set-at (take k l) _ ys v k e)
+
+  puts-over : (lim : ℕ) (l : List A) (k : ℕ) (vs : List A) → k + length vs ≤ lim → lim ≤ length l → putsIn lim l k vs ≡ over k l vs
+  puts-over lim l k [] h g = rw add-zero (sym (take-append-drop k l))
+  puts-over lim l k (v ∷ vs) h g =
+      let p : k < lim = omega arith in
+      let q : k < length l = omega arith in
+      let e : k + 1 + length vs ≡ k + suc (length vs) = omega arith in
+      let i : k + 1 + length vs ≤ lim = omega arith in
+      rw (puts-over lim l (k + 1) vs i g, lt-ltb k lim p, set-next l (vs ++ drop (k + 1 + length vs) l) k v q, e)
+
+ty-puts : (lim : ℕ) (t : Table) (k : ℕ) (rs : List Row) → puts lim t k rs .ty ≡ putsIn lim (t .ty) k (map (λ (r : Row). r .ty) rs)
+unfolding puts putRow
+ty-puts lim t k [] = refl
+ty-puts lim t k (r ∷ rs) = rw (ty-puts lim t (k + 1) rs)
+
+own-puts : (lim : ℕ) (t : Table) (k : ℕ) (rs : List Row) → puts lim t k rs .own ≡ putsIn lim (t .own) k (map (λ (r : Row). r .own) rs)
+unfolding puts putRow
+own-puts lim t k [] = refl
+own-puts lim t k (r ∷ rs) = rw (own-puts lim t (k + 1) rs)
+
+label-puts : (lim : ℕ) (t : Table) (k : ℕ) (rs : List Row) → puts lim t k rs .label ≡ putsIn lim (t .label) k (map (λ (r : Row). r .label) rs)
+unfolding puts putRow
+label-puts lim t k [] = refl
+label-puts lim t k (r ∷ rs) = rw (label-puts lim t (k + 1) rs)
+
+number-puts : (lim : ℕ) (t : Table) (k : ℕ) (rs : List Row) → puts lim t k rs .number ≡ putsIn lim (t .number) k (map (λ (r : Row). r .number) rs)
+unfolding puts putRow
+number-puts lim t k [] = refl
+number-puts lim t k (r ∷ rs) = rw (number-puts lim t (k + 1) rs)
+
+first-puts : (lim : ℕ) (t : Table) (k : ℕ) (rs : List Row) → puts lim t k rs .first ≡ putsIn lim (t .first) k (map (λ (r : Row). r .first) rs)
+unfolding puts putRow
+first-puts lim t k [] = refl
+first-puts lim t k (r ∷ rs) = rw (first-puts lim t (k + 1) rs)
+
+second-puts : (lim : ℕ) (t : Table) (k : ℕ) (rs : List Row) → puts lim t k rs .second ≡ putsIn lim (t .second) k (map (λ (r : Row). r .second) rs)
+unfolding puts putRow
+second-puts lim t k [] = refl
+second-puts lim t k (r ∷ rs) = rw (second-puts lim t (k + 1) rs)
+
+place-puts : (lim : ℕ) (t : Table) (k : ℕ) (rs : List Row) → puts lim t k rs .place ≡ putsIn lim (t .place) k (map (λ (r : Row). r .place) rs)
+unfolding puts putRow
+place-puts lim t k [] = refl
+place-puts lim t k (r ∷ rs) = rw (place-puts lim t (k + 1) rs)
+
+below-puts : (lim : ℕ) (t : Table) (k : ℕ) (rs : List Row) → puts lim t k rs .below ≡ putsIn lim (t .below) k (map (λ (r : Row). r .below) rs)
+unfolding puts putRow
+below-puts lim t k [] = refl
+below-puts lim t k (r ∷ rs) = rw (below-puts lim t (k + 1) rs)
+
+start-puts : (lim : ℕ) (t : Table) (k : ℕ) (rs : List Row) → puts lim t k rs .start ≡ putsIn lim (t .start) k (map (λ (r : Row). r .start) rs)
+unfolding puts putRow
+start-puts lim t k [] = refl
+start-puts lim t k (r ∷ rs) = rw (start-puts lim t (k + 1) rs)
+
+end-puts : (lim : ℕ) (t : Table) (k : ℕ) (rs : List Row) → puts lim t k rs .end ≡ putsIn lim (t .end) k (map (λ (r : Row). r .end) rs)
+unfolding puts putRow
+end-puts lim t k [] = refl
+end-puts lim t k (r ∷ rs) = rw (end-puts lim t (k + 1) rs)
+
+column : {A : Type 0} (lim : ℕ) (l : List A) (k : ℕ) (f : Row → A) (rs : List Row) → k + length rs ≤ lim → lim ≤ length l → putsIn lim l k (map f rs) ≡ over k l (map f rs)
+column lim l k f rs h g = let e : k + length (map f rs) ≤ lim = rw (length-map rs f) h in puts-over lim l k (map f rs) e g
+
+-- with room enough, the rows stand there and all else is as it was
+pub puts-filled : (lim : ℕ) (t : Table) (k : ℕ) (rs : List Row) → k + length rs ≤ lim → Roomy lim t → Filled k rs t (puts lim t k rs)
+puts-filled lim t k rs h g = record {
+  ty-filled = ty-puts lim t k rs ∙ column lim (t .ty) k (λ (r : Row). r .ty) rs h (g .ty-room);
+  own-filled = own-puts lim t k rs ∙ column lim (t .own) k (λ (r : Row). r .own) rs h (g .own-room);
+  label-filled = label-puts lim t k rs ∙ column lim (t .label) k (λ (r : Row). r .label) rs h (g .label-room);
+  number-filled = number-puts lim t k rs ∙ column lim (t .number) k (λ (r : Row). r .number) rs h (g .number-room);
+  first-filled = first-puts lim t k rs ∙ column lim (t .first) k (λ (r : Row). r .first) rs h (g .first-room);
+  second-filled = second-puts lim t k rs ∙ column lim (t .second) k (λ (r : Row). r .second) rs h (g .second-room);
+  place-filled = place-puts lim t k rs ∙ column lim (t .place) k (λ (r : Row). r .place) rs h (g .place-room);
+  below-filled = below-puts lim t k rs ∙ column lim (t .below) k (λ (r : Row). r .below) rs h (g .below-room);
+  start-filled = start-puts lim t k rs ∙ column lim (t .start) k (λ (r : Row). r .start) rs h (g .start-room);
+  end-filled = end-puts lim t k rs ∙ column lim (t .end) k (λ (r : Row). r .end) rs h (g .end-room);
+}

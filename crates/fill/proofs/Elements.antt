@@ -1,0 +1,212 @@
+-- The values of a container filled in, turn by turn.
+use mathlib.Core.Path.{_≡_, refl, sym, ap, subst, ap₂, _∙_}
+use mathlib.Core.Bool.{Bool, true, false}
+use mathlib.Core.List.{List, [], _∷_, _++_, append-nil, append-assoc}
+use Prim.Native.Nat.{ℕ, zero, suc, _+_, _-_, _*_, _^_, _<_, _≤_}
+use native.Mathlib.Omega.{arith}
+use native.Mathlib.Nat.{add-zero}
+use native.Mathlib.Numerals.{add-one}
+use lib.ListN.{length, length-append}
+use lib.IntN.{ℤ, pos, negsuc}
+use Rattle.format.specs.declared.Row.{Row}
+use Rattle.format.specs.Values.{Head, Children, empty, child, value, ruleOf}
+use Rattle.format.specs.Spelling.{fore, indexed, index, spellChildren, spell}
+use Rattle.format.specs.Rows.{count, rowOf, rowsFrom}
+use Rattle.format.specs.Writing.{Table}
+use Rattle.fill.specs.declared.Form.{Form}
+use Rattle.fill.specs.declared.Nest.{Nest}
+use Rattle.fill.specs.declared.Door.{Door}
+use Rattle.fill.specs.declared.Door.the-variants.{Open, Close, Jammed}
+use Rattle.fill.specs.declared.Step.{Step}
+use Rattle.fill.specs.declared.Step.the-variants.{On, Astray}
+use Rattle.fill.specs.Columns.{Roomy, Kept, Stored, putRow, puts}
+use Rattle.fill.specs.Fronts.{Begins}
+use Rattle.fill.specs.Rows.{nestOf, turn, pastDoor, Further, DoorAt}
+use Rattle.fill.specs.Filling.{Fillable, Within, Fit, closed, Ready, Forth, FilledValue, FilledElements}
+use Rattle.fill.proofs.Begins.{begins-left, begins-right, moved}
+use Rattle.fill.proofs.Columns.{kept-same, kept-trans, puts-append}
+use Rattle.fill.proofs.Values.{rows-count, spell-long}
+
+-- the values still to come, of those (cs) that stand from `from` on: what is left to do comes to the same
+pub record Left (o : List ℕ) (lim d : ℕ) (n : Nest) (from base : ℕ) (t₀ : Table) (cs : Children) (at i rows : ℕ) (t : Table) : Type 0 where
+  pub left : Children
+  pub fits : Fillable d n i left
+  pub begun : Begins o at (spellChildren (n .indexed) left)
+  pub rows-same : rows + count left ≡ base + count cs
+  pub place-same : at + length (spellChildren (n .indexed) left) ≡ from + length (spellChildren (n .indexed) cs)
+  pub table-same : puts lim t rows (rowsFrom (n .indexed) at left) ≡ puts lim t₀ base (rowsFrom (n .indexed) from cs)
+
+-- what a turn of the loop begins with
+pub record Turn (o : List ℕ) (lim d : ℕ) (n : Nest) (from base : ℕ) (t₀ : Table) (at i rows : ℕ) (t : Table) : Type 0 where
+  pub inside : at ≤ length o
+  pub past : from ≤ at
+  pub steps : base + i ≤ rows
+  pub room : rows ≤ lim
+  pub kept : Kept t t₀
+  pub rest : (cs : Children) → Fillable d n 0 cs → Begins o from (spellChildren (n .indexed) cs) → base + count cs ≤ lim → Left o lim d n from base t₀ cs at i rows t
+
+pub turn-first : {o : List ℕ} {lim d : ℕ} {n : Nest} {from base : ℕ} {t : Table} → Ready o lim from base t → Turn o lim d n from base t from 0 base t
+turn-first r = record {
+  inside = r .inside;
+  past = omega arith;
+  steps = omega arith;
+  room = r .below;
+  kept = kept-same;
+  rest = λ cs f b l. record { left = cs; fits = f; begun = b; rows-same = refl; place-same = refl; table-same = refl };
+}
+
+-- ---- one value and those after it, spelt and as rows
+
+child-spelt : (x : Bool) (j : ℕ) (h : Head) (cs more : Children) → spellChildren x (child j h cs more) ≡ index x (pos j) ++ (spell (value h cs) ++ spellChildren x more)
+unfolding spellChildren spell
+child-spelt x j h cs more = ap (λ (l : List ℕ). index x (pos j) ++ l) (sym (append-assoc (fore h) (spellChildren (indexed (ruleOf h)) cs) (spellChildren x more)))
+
+child-long : (x : Bool) (j : ℕ) (h : Head) (cs more : Children) → length (spellChildren x (child j h cs more)) ≡ length (index x (pos j)) + (length (spell (value h cs)) + length (spellChildren x more))
+child-long x j h cs more = ap length (child-spelt x j h cs more) ∙ length-append (index x (pos j)) _ ∙ ap (λ (n : ℕ). length (index x (pos j)) + n) (length-append (spell (value h cs)) (spellChildren x more))
+
+child-rows : (x : Bool) (at next j : ℕ) (h : Head) (cs more : Children) → next ≡ at + length (index x (pos j))
+    → rowsFrom x at (child j h cs more) ≡ rowsFrom false next (child j h cs empty) ++ rowsFrom x (next + length (spell (value h cs))) more
+unfolding rowsFrom
+child-rows x at next j h cs more e = rw (e, add-zero, append-nil (rowsFrom (indexed (ruleOf h)) (at + length (index x (pos j)) + length (fore h)) cs))
+
+-- the door to values
+abbrev doorOf : Bool → ℕ → Children → Door
+doorOf x at empty = Close (at + length (index x (negsuc 0)))
+doorOf x at (child j h cs more) = Open (at + length (index x (pos j))) j
+
+no-door : {a b j : ℕ} → _≡_ {A = Door} (Close a) (Open b j) → ⊥
+no-door h = let z : _≡_ {A = ℕ} 0 1 = cc in omega arith
+
+open-next : {a b i j : ℕ} → _≡_ {A = Door} (Open a i) (Open b j) → a ≡ b
+open-next h = cc
+
+open-label : {a b i j : ℕ} → _≡_ {A = Door} (Open a i) (Open b j) → i ≡ j
+open-label h = cc
+
+close-next : {a b : ℕ} → _≡_ {A = Door} (Close a) (Close b) → a ≡ b
+close-next h = cc
+
+on-next : {a b m n : ℕ} → _≡_ {A = Step} (On a m) (On b n) → a ≡ b
+on-next h = cc
+
+on-rows : {a b m n : ℕ} → _≡_ {A = Step} (On a m) (On b n) → m ≡ n
+on-rows h = cc
+
+jammed : {a : Door} → Jammed ≡ a → (x : Bool) (at : ℕ) (cs : Children) → a ≡ doorOf x at cs → ⊥
+jammed e x at empty q = let z : _≡_ {A = ℕ} 0 1 = cc in omega arith
+jammed e x at (child j h cs more) q = let z : _≡_ {A = ℕ} 0 1 = cc in omega arith
+
+no-step : {a m : ℕ} → _≡_ {A = Step} Astray (On a m) → ⊥
+no-step h = let z : _≡_ {A = ℕ} 0 1 = cc in omega arith
+
+falls : (x : Bool) (count i at next at₂ long : ℕ) → Further x count i at next → at ≤ next → next ≤ long → next ≤ at₂ → at₂ ≤ long → count - (i + 1) + (long - at₂) < count - i + (long - at)
+falls true count i at next at₂ long f a b c d = omega arith
+falls false count i at next at₂ long f a b c d = omega arith
+
+module _ {o : List ℕ} {lim d : ℕ} {n : Nest} {from base : ℕ} {t₀ : Table} {at i rows : ℕ} {t : Table} (tn : Turn o lim d n from base t₀ at i rows t) {g : Door} (door : DoorAt o (n .indexed) (n .paired) (n .count) i at g) where
+  door-is : (d' : ℕ) (cs : Children) → Fillable d' n i cs → Begins o at (spellChildren (n .indexed) cs) → g ≡ doorOf (n .indexed) at cs
+  unfolding Fillable spellChildren
+  door-is d empty f b = door .closes f b
+  door-is zero (child j h cs more) f b = absurd f
+  door-is (suc d) (child j h cs more) f b = door .opens j (f .0) (begins-left (index (n .indexed) (pos j)) _ b)
+
+  ends : {next : ℕ} → g ≡ Close next → (cs left : Children) → Fillable d n i left → Begins o at (spellChildren (n .indexed) left) → rows + count left ≡ base + count cs
+      → at + length (spellChildren (n .indexed) left) ≡ from + length (spellChildren (n .indexed) cs) → puts lim t rows (rowsFrom (n .indexed) at left) ≡ puts lim t₀ base (rowsFrom (n .indexed) from cs)
+      → (rows ≡ base + count cs) × (next ≡ from + length (spellChildren (n .indexed) cs)) × (t ≡ puts lim t₀ base (rowsFrom (n .indexed) from cs))
+  unfolding spellChildren rowsFrom puts count
+  ends q cs empty f b r p e = (sym (add-zero rows) ∙ r, close-next (sym q ∙ door-is d empty f b) ∙ p, e)
+  ends q cs (child j h inner more) f b r p e = absurd (no-door (sym q ∙ door-is d (child j h inner more) f b))
+
+  module _ {next j : ℕ} (q : g ≡ Open next j) {r : Step} {t' : Table} (filled : FilledValue o lim (turn (n .form) (n .other) i) j next rows d t r t') where
+    value-is : (d' : ℕ) → d ≡ suc d' → (j' : ℕ) (h : Head) (cs more : Children) → Fillable (suc d') n i (child j' h cs more) → Begins o at (spellChildren (n .indexed) (child j' h cs more)) → rows + count (child j' h cs more) ≤ lim
+        → (next ≡ at + length (index (n .indexed) (pos j'))) × (j ≡ j') × (r ≡ On (next + length (spell (value h cs))) (rows + suc (count cs))) × (t' ≡ puts lim t rows (rowsFrom false next (child j h cs empty)))
+    unfolding Fillable count
+    value-is d' e j' h cs more f b l =
+        let w : Open next j ≡ Open (at + length (index (n .indexed) (pos j'))) j' = sym q ∙ door-is (suc d') (child j' h cs more) f b in
+        let b' = begins-right (index (n .indexed) (pos j')) (spell (value h cs) ++ spellChildren (n .indexed) more) (subst (Begins o at) (child-spelt (n .indexed) j' h cs more) b) in
+        let fit : Fit d (turn (n .form) (n .other) i) h cs = record { stands = f .1; carried = f .2; good = f .3; dated = f .4; within = subst (λ (y : ℕ). Within y (nestOf h cs) cs) (sym e) (f .5) } in
+        let s = filled .same h cs fit (moved (open-next w) (begins-left (spell (value h cs)) (spellChildren (n .indexed) more) b')) (omega arith) in
+        (open-next w, open-label w, s .0, s .1)
+
+    abbrev Step-on : ℕ → ℕ → Children → Type 0
+    Step-on at₂ rows₂ left = (more : Children) × Fillable d n (suc i) more × Begins o at₂ (spellChildren (n .indexed) more) × (rows₂ + count more ≡ rows + count left)
+        × (at₂ + length (spellChildren (n .indexed) more) ≡ at + length (spellChildren (n .indexed) left)) × (puts lim t' rows₂ (rowsFrom (n .indexed) at₂ more) ≡ puts lim t rows (rowsFrom (n .indexed) at left))
+
+    step-on : {at₂ rows₂ : ℕ} → r ≡ On at₂ rows₂ → (d' : ℕ) → d' ≡ d → (left : Children) → Fillable d' n i left → Begins o at (spellChildren (n .indexed) left) → rows + count left ≤ lim → Step-on at₂ rows₂ left
+    unfolding Fillable count
+    step-on z d' e empty f b l = absurd (no-door (sym (door-is d' empty f b) ∙ q))
+    step-on z zero e (child j' h cs more) f b l = absurd f
+    step-on {at₂} {rows₂} z (suc d') e (child j' h cs more) f b l =
+        let v = value-is d' (sym e) j' h cs more f b l in
+        let place : at₂ ≡ next + length (spell (value h cs)) = on-next (sym z ∙ v .2) in
+        let row : rows₂ ≡ rows + suc (count cs) = on-rows (sym z ∙ v .2) in
+        let b' = begins-right (spell (value h cs)) (spellChildren (n .indexed) more) (begins-right (index (n .indexed) (pos j')) (spell (value h cs) ++ spellChildren (n .indexed) more) (subst (Begins o at) (child-spelt (n .indexed) j' h cs more) b)) in
+        let long : rows₂ ≡ rows + length (rowsFrom false next (child j h cs empty)) = row ∙ ap (λ (y : ℕ). rows + y) (sym (rows-count false next (child j h cs empty) ∙ ap suc (add-zero (count cs)))) in (
+          more,
+          subst (λ (y : ℕ). Fillable y n (suc i) more) e (f .6),
+          moved (place ∙ ap (λ (y : ℕ). y + length (spell (value h cs))) (v .0)) b',
+          omega arith,
+          omega (arith, child-long (n .indexed) j' h cs more, v .0),
+          ap₂ (λ (u : Table) (y : ℕ). puts lim u y (rowsFrom (n .indexed) at₂ more)) (v .3) long ∙ puts-append lim t rows (rowsFrom false next (child j h cs empty)) (rowsFrom (n .indexed) at₂ more)
+              ∙ ap (puts lim t rows) (ap₂ (λ (y z : ℕ). rowsFrom false next (child y h cs empty) ++ rowsFrom (n .indexed) z more) (v .1) place ∙ sym (child-rows (n .indexed) at next j' h cs more (v .0))),
+        )
+
+    stop-on : r ≡ Astray → (d' : ℕ) → d' ≡ d → (left : Children) → Fillable d' n i left → Begins o at (spellChildren (n .indexed) left) → rows + count left ≤ lim → ⊥
+    unfolding Fillable
+    stop-on z d' e empty f b l = no-door (sym (door-is d' empty f b) ∙ q)
+    stop-on z zero e (child j' h cs more) f b l = f
+    stop-on z (suc d') e (child j' h cs more) f b l = no-step (sym z ∙ value-is d' (sym e) j' h cs more f b l .2)
+
+    pub turn-less : {at₂ rows₂ : ℕ} → r ≡ On at₂ rows₂ → n .count - (i + 1) + (length o - at₂) < n .count - i + (length o - at)
+    turn-less {at₂} {rows₂} z =
+        let p = subst (pastDoor o (n .indexed) (n .count) i at) q (door .past) in
+        let v = subst (Forth o lim next (suc rows)) z (filled .forth) in
+        falls (n .indexed) (n .count) i at next at₂ (length o) (p .2) (p .0) (p .1) (v .0) (v .1)
+
+    pub turn-again : {at₂ rows₂ : ℕ} → r ≡ On at₂ rows₂ → Kept t' t → Turn o lim d n from base t₀ at₂ (i + 1) rows₂ t'
+    turn-again {at₂} {rows₂} z ks =
+        let p = subst (pastDoor o (n .indexed) (n .count) i at) q (door .past) in
+        let v = subst (Forth o lim next (suc rows)) z (filled .forth) in
+        record {
+          inside = v .1;
+          past = omega (arith, tn .past, p .0, v .0);
+          steps = omega (arith, tn .steps, v .2);
+          room = v .3;
+          kept = kept-trans ks (tn .kept);
+          rest = λ cs f b l.
+              let lf = tn .rest cs f b l in
+              let s = step-on z d refl (lf .left) (lf .fits) (lf .begun) (omega (arith, lf .rows-same)) in
+              record {
+                left = s .0;
+                fits = subst (λ (y : ℕ). Fillable d n y (s .0)) (sym (add-one i)) (s .1);
+                begun = s .2;
+                rows-same = s .3 ∙ lf .rows-same;
+                place-same = s .4 ∙ lf .place-same;
+                table-same = s .5 ∙ lf .table-same;
+              };
+        }
+
+    pub elements-stop : {row : Row} {k : ℕ} → from ≡ row .end → r ≡ Astray → FilledElements o lim row n k base d t₀ Astray t'
+    elements-stop e z = record {
+      forth = tt;
+      same = λ cs f b l. let lf = tn .rest cs f (moved e b) l in absurd (stop-on z d refl (lf .left) (lf .fits) (lf .begun) (omega (arith, lf .rows-same)));
+    }
+
+  pub elements-jammed : {row : Row} {k : ℕ} → from ≡ row .end → g ≡ Jammed → FilledElements o lim row n k base d t₀ Astray t
+  elements-jammed e z = record {
+    forth = tt;
+    same = λ cs f b l. let lf = tn .rest cs f (moved e b) l in absurd (jammed (sym z) (n .indexed) at (lf .left) (door-is d (lf .left) (lf .fits) (lf .begun)));
+  }
+
+  pub elements-close : {row : Row} {k next : ℕ} {t' : Table} → from ≡ row .end → g ≡ Close next → Stored lim k (closed row (rows - base) next) t t' → FilledElements o lim row n k base d t₀ (On next rows) t'
+  elements-close {row} {k} {next} {t'} e z st =
+      let p = subst (pastDoor o (n .indexed) (n .count) i at) z (door .past) in
+      record {
+        forth = (omega (arith, tn .past, p .0, e), p .1, omega (arith, tn .steps), tn .room);
+        same = λ cs f b l.
+            let lf = tn .rest cs f (moved e b) l in
+            let w = ends z cs (lf .left) (lf .fits) (lf .begun) (lf .rows-same) (lf .place-same) (lf .table-same) in
+            let below : rows - base ≡ count cs = omega (arith, w .0) in
+            let last : next ≡ row .end + length (spellChildren (n .indexed) cs) = w .1 ∙ ap (λ (y : ℕ). y + length (spellChildren (n .indexed) cs)) e in
+            (ap₂ On last (w .0), st .stored ∙ ap₂ (λ (u : Table) (y : Row). putRow lim u k y) (w .2 ∙ ap (λ (y : ℕ). puts lim t₀ base (rowsFrom (n .indexed) y cs)) e) (ap₂ (closed row) below last));
+      }

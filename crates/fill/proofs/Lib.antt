@@ -1,0 +1,12 @@
+pub mod Begins
+pub mod Numbers
+pub mod Fronts
+pub mod Contained
+pub mod Doors
+pub mod Rows
+pub mod Columns
+pub mod Values
+pub mod Elements
+pub mod Bounds
+pub mod Accepted
+pub mod Whole

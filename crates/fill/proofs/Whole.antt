@@ -1,0 +1,54 @@
+-- A whole message filled in.
+use mathlib.Core.Path.{_≡_, refl, sym, ap, subst, _∙_}
+use mathlib.Core.Bool.{false}
+use mathlib.Core.List.{List, [], append-nil}
+use Prim.Native.Nat.{ℕ, suc, _+_, _^_, _<_, _≤_}
+use native.Mathlib.Omega.{arith}
+use lib.ListN.{length}
+use borrow.Author.Tests.{le-ltb}
+use Rattle.format.specs.declared.Row.{Row}
+use Rattle.format.specs.Values.{childOf, empty, Value, levels}
+use Rattle.format.specs.Spelling.{spellChildren, spell}
+use Rattle.format.specs.Grammar.{Valid}
+use Rattle.format.specs.Rows.{count, rowsFrom, rows}
+use Rattle.format.specs.Writing.{Table}
+use Rattle.laws.proofs.Rows.{alone-spelt}
+use Rattle.fill.specs.declared.Form.the-variants.{Whole}
+use Rattle.fill.specs.declared.Nest.{Nest}
+use Rattle.fill.specs.declared.Step.{Step}
+use Rattle.fill.specs.Columns.{Roomy, putRow, puts, Filled}
+use Rattle.fill.specs.Fronts.{Begins}
+use Rattle.fill.specs.Rows.{nestWith}
+use Rattle.fill.specs.Filling.{FilledElements, FilledIn}
+use Rattle.fill.proofs.Columns.{puts-filled}
+use Rattle.fill.proofs.Values.{rows-count}
+use Rattle.fill.proofs.Accepted.{valid-fillable}
+
+-- nothing is stored at the limit
+row-none : (lim : ℕ) (t : Table) (r : Row) → putRow lim t lim r ≡ t
+unfolding putRow
+row-none lim t r = rw (le-ltb lim lim (omega arith))
+
+rows-are : (v : Value) → rows v ≡ rowsFrom false 0 (childOf 0 v empty)
+unfolding rows
+rows-are v = refl
+
+begun : (o : List ℕ) (v : Value) → o ≡ spell v → Begins o 0 (spellChildren false (childOf 0 v empty))
+unfolding Rattle.laws.proofs.Rows.alone spell
+begun o v e = record { after = []; begins = e ∙ sym (append-nil (spellChildren false (childOf 0 v empty)) ∙ alone-spelt v) }
+
+pub filled-in : {o : List ℕ} {lim : ℕ} {row : Row} {d : ℕ} {t : Table} {r : Step} {t' : Table} → FilledElements o lim row (nestWith false false Whole Whole 1) lim 0 d t r t' → d ≡ suc levels → row .end ≡ 0 → Roomy lim t → FilledIn o lim t t'
+filled-in {o} {lim} {row} {d} {t} {r} {t'} f dd e room = record {
+  same = λ v k s l.
+      let c = childOf 0 v empty in
+      let n : length (rows v) ≡ count c = ap length (rows-are v) ∙ rows-count false 0 c in
+      let w = f .same c (rw dd (valid-fillable v k)) (rw e (begun o v s)) (omega arith) in
+      let z : t' ≡ puts lim t 0 (rows v) = w .1 ∙ row-none lim _ _ ∙ rw (e, rows-are v) in
+      subst (Filled 0 (rows v) t) (sym z) (puts-filled lim t 0 (rows v) (omega arith) room);
+}
+
+pub filled-whole : {o : List ℕ} {lim : ℕ} {row : Row} {d : ℕ} {n : Nest} {t : Table} {r : Step} {t' : Table} → n ≡ nestWith false false Whole Whole 1 → FilledElements o lim row n lim 0 d t r t' → d ≡ suc levels → row .end ≡ 0 → Roomy lim t → FilledIn o lim t t'
+filled-whole {o} {lim} {row} {d} {n} {t} {r} {t'} q f = filled-in (subst (λ (y : Nest). FilledElements o lim row y lim 0 d t r t') q f)
+
+pub one-count : {n : Nest} → n ≡ nestWith false false Whole Whole 1 → n .count < 2 ^ 32
+one-count q = rw q (omega arith)

@@ -1,0 +1,35 @@
+use Rattle.fill.proofs.Numbers.{amount-found, amount-lost}
+use borrow.Author.Needs.{needs}
+use Rattle.fill.proofs.amount_number.Statement.{statement}
+use Rattle.fill.proofs.amount_number.Tie as tie
+use Rattle.fill.proofs.amount_number.Reads as reads
+use Rattle.fill.proofs.amount_number.Lts as lts
+use Rattle.decide.proofs.amount_at.Reads as amount-at-reads
+
+-- src/lib.rt:154:11
+amount-at-requires : tie.Need-amount-at-requires
+amount-at-requires c κs = search needs
+
+-- src/lib.rt:155:24
+enum-known-next : tie.Need-enum-known-next
+enum-known-next c = search needs
+
+-- src/lib.rt:155:59
+cast-t7 : tie.Need-cast-t7
+cast-t7 c = search needs
+
+-- src/lib.rt:156:32
+enum-told : tie.Need-enum-told
+enum-told c = search needs
+
+-- src/lib.rt:151:1
+returns : tie.Need-returns
+returns c = amount-found (c .before .before .before .amount-at .ensures) (c .before .next .given .1)
+
+-- src/lib.rt:151:1
+returns-2 : tie.Need-returns-2
+returns-2 c = amount-lost (c .before .before .amount-at .ensures) (c .enum-told .given .1)
+
+pub amount-number-spec : {M : Type 1} → statement M
+amount-number-spec =
+    tie.close (tie.spec amount-at-requires enum-known-next cast-t7 enum-told returns returns-2)

@@ -1,0 +1,73 @@
+-- What filling comes to: where the octets are the spelling of values that may be filled in, their rows are stored, and nothing else.
+use mathlib.Core.Path.{_≡_}
+use mathlib.Core.Bool.{Bool, true, false}
+use mathlib.Core.List.{List}
+use Prim.Native.Nat.{ℕ, zero, suc, _+_, _^_, _<_, _≤_}
+use lib.ListN.{length}
+use Rattle.format.specs.declared.Row.{Row}
+use Rattle.format.specs.Types.{kindOf}
+use Rattle.format.specs.Values.{Head, Children, empty, child, Value, value}
+use Rattle.format.specs.Spelling.{spellChildren, spell}
+use Rattle.format.specs.Grammar.{Good, Valid}
+use Rattle.format.specs.Rows.{count, rowsFrom, rows}
+use Rattle.format.specs.Writing.{Table}
+use Rattle.fill.specs.declared.Form.{Form}
+use Rattle.fill.specs.declared.Nest.{Nest}
+use Rattle.fill.specs.declared.Step.{Step}
+use Rattle.fill.specs.declared.Step.the-variants.{On, Astray}
+use Rattle.fill.specs.Columns.{Roomy, putRow, puts, Filled}
+use Rattle.fill.specs.Fronts.{Begins, Stands}
+use Rattle.fill.specs.Rows.{nestOf, Dated, turn, Opens, Closes}
+
+-- values that a container may hold after i others, and which stand at most d deep
+unfoldable pub Fillable : ℕ → Nest → ℕ → Children → Type 0
+Fillable d n i empty = Closes (n .indexed) (n .count) i
+Fillable zero n i (child j h cs more) = ⊥
+Fillable (suc d) n i (child j h cs more) =
+    Opens (n .indexed) (n .paired) (n .count) i j × Stands (turn (n .form) (n .other) i) h × (kindOf (h .ty) .carried ≡ true) × Good (kindOf (h .ty)) h
+    × Dated (kindOf (h .ty) .holds) cs × Fillable d (nestOf h cs) 0 cs × Fillable (suc d) n (suc i) more
+
+abbrev pub Within : ℕ → Nest → Children → Type 0
+Within zero n cs = ⊥
+Within (suc d) n cs = Fillable d n 0 cs
+
+-- a value that may be filled in
+pub record Fit (d : ℕ) (form : Form) (h : Head) (cs : Children) : Type 0 where
+  pub stands : Stands form h
+  pub carried : kindOf (h .ty) .carried ≡ true
+  pub good : Good (kindOf (h .ty)) h
+  pub dated : Dated (kindOf (h .ty) .holds) cs
+  pub within : Within d (nestOf h cs) cs
+
+-- a row with the rows below it and its end
+abbrev pub closed : Row → ℕ → ℕ → Row
+closed r n to = record { ty = r .ty; own = r .own; label = r .label; number = r .number; first = r .first; second = r .second; place = r .place; below = n; start = r .start; end = to }
+
+-- what holds at each call
+pub record Ready (o : List ℕ) (lim at k : ℕ) (t : Table) : Type 0 where
+  pub room : Roomy lim t
+  pub short : length o < 2 ^ 32
+  pub few : lim < 2 ^ 32
+  pub inside : at ≤ length o
+  pub below : k ≤ lim
+
+abbrev pub Forth : List ℕ → ℕ → ℕ → ℕ → Step → Type 0
+Forth o lim at k (On next rows) = (at ≤ next) × (next ≤ length o) × (k ≤ rows) × (rows ≤ lim)
+Forth o lim at k Astray = Unit {0}
+
+-- a value with label i, from `at` on: its rows stand from k on
+pub record FilledValue (o : List ℕ) (lim : ℕ) (form : Form) (i at k d : ℕ) (t : Table) (r : Step) (t' : Table) : Type 0 where
+  pub forth : Forth o lim at (suc k) r
+  pub same : (h : Head) (cs : Children) → Fit d form h cs → Begins o at (spell (value h cs)) → k + suc (count cs) ≤ lim
+      → (r ≡ On (at + length (spell (value h cs))) (k + suc (count cs))) × (t' ≡ puts lim t k (rowsFrom false at (child i h cs empty)))
+
+-- the values of a container whose row, up to them, is given and belongs at k: their rows stand from `base` on
+pub record FilledElements (o : List ℕ) (lim : ℕ) (row : Row) (n : Nest) (k base d : ℕ) (t : Table) (r : Step) (t' : Table) : Type 0 where
+  pub forth : Forth o lim (row .end) base r
+  pub same : (cs : Children) → Fillable d n 0 cs → Begins o (row .end) (spellChildren (n .indexed) cs) → base + count cs ≤ lim
+      → (r ≡ On (row .end + length (spellChildren (n .indexed) cs)) (base + count cs))
+      × (t' ≡ putRow lim (puts lim t base (rowsFrom (n .indexed) (row .end) cs)) k (closed row (count cs) (row .end + length (spellChildren (n .indexed) cs))))
+
+-- the rows of an accepted message stand in the columns, from the first row on, and all else is as it was
+pub record FilledIn (o : List ℕ) (lim : ℕ) (t t' : Table) : Type 0 where
+  pub same : (v : Value) → Valid v → o ≡ spell v → length (rows v) ≤ lim → Filled 0 (rows v) t t'

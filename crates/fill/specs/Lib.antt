@@ -1,0 +1,4 @@
+pub mod Columns
+pub mod Fronts
+pub mod Rows
+pub mod Filling
