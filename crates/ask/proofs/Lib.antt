@@ -1,0 +1,4 @@
+pub mod Ranges
+pub mod Judging
+pub mod Answering
+pub mod Looking

@@ -1,0 +1,6 @@
+pub mod Decimal
+pub mod Writes
+pub mod Signs
+pub mod Lines
+pub mod Lengths
+pub mod Digits
