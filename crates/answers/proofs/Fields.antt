@@ -1,0 +1,53 @@
+-- What a field tells.
+use mathlib.Core.Path.{_≡_, refl, ap, sym, _∙_}
+use mathlib.Core.Bool.{Bool, true, false, _&&_}
+use mathlib.Core.List.{List, []}
+use Prim.Native.Nat.{ℕ, _-_, _*_, _%_, _<_, _≤_}
+use native.Mathlib.Omega.{arith}
+use lib.ListN.{length, getD, take, drop, length-drop}
+use lib.Seq.{length-sets, take-all}
+use lib.Dec.{leb, eqb}
+use borrow.Author.Tests.{le-leb, lt-leb, eq-eqb, ne-eqb}
+use Rattle.format.specs.Desk.{allDigits, octetsOf}
+use Rattle.integer.specs.Writes.{Room, Wrote}
+use Rattle.text.proofs.Digits.{octets-length}
+use Rattle.text.proofs.Writes.{wrote-front}
+use Rattle.answers.specs.Cases.{Field, some, malformed, isPairs, fieldOf}
+
+module _ (l : List ℕ) where
+  pub none-there : length l ≡ 0 → fieldOf l ≡ malformed
+  unfolding fieldOf
+  none-there h = rw (ne-eqb (length l) 1 (λ e. omega arith), lt-leb 2 (length l) (omega arith))
+
+  pub dash : length l ≡ 1 → getD l 0 0 ≡ 0x2D → fieldOf l ≡ some []
+  unfolding fieldOf
+  dash h e = rw (eq-eqb (length l) 1 h, eq-eqb (getD l 0 0) 0x2D e)
+
+  pub lone : length l ≡ 1 → (getD l 0 0 ≡ 0x2D → ⊥) → fieldOf l ≡ malformed
+  unfolding fieldOf
+  lone h e = rw (eq-eqb (length l) 1 h, ne-eqb (getD l 0 0) 0x2D e, lt-leb 2 (length l) (omega arith))
+
+  pub odd : 2 ≤ length l → (length l % 2 ≡ 0 → ⊥) → fieldOf l ≡ malformed
+  unfolding fieldOf
+  odd h o = rw (ne-eqb (length l) 1 (λ e. omega arith), le-leb 2 (length l) h, ne-eqb (length l % 2) 0 o)
+
+  pub undigit : 2 ≤ length l → length l % 2 ≡ 0 → allDigits l ≡ false → fieldOf l ≡ malformed
+  unfolding fieldOf
+  undigit h o e = rw (ne-eqb (length l) 1 (λ e. omega arith), le-leb 2 (length l) h, eq-eqb (length l % 2) 0 o, e)
+
+  whole : 2 ≤ length l → length l % 2 ≡ 0 → allDigits l ≡ true → fieldOf l ≡ some (octetsOf l)
+  unfolding fieldOf
+  whole h o e = rw (ne-eqb (length l) 1 (λ e. omega arith), le-leb 2 (length l) h, eq-eqb (length l % 2) 0 o, e)
+
+  pub pairs-room : {work : List ℕ} → length l ≤ 2 * length work → Room (octetsOf l) 0 work
+  pairs-room h = record { room = omega (arith, octets-length l) }
+
+  pub pairs : {work after : List ℕ} {n : ℕ} → length l ≤ 2 * length work → 2 ≤ length l → length l % 2 ≡ 0 → allDigits l ≡ true → Wrote (octetsOf l) 0 work n after
+      → (fieldOf l ≡ some (take n after)) × (n ≤ length after)
+  pairs {work} h g o e w =
+      let fits : length (octetsOf l) ≤ length work = omega (arith, octets-length l) in
+      (whole g o e ∙ ap some (sym (wrote-front w fits)), omega (arith, w .past, ap length (w .holds) ∙ length-sets work 0 (octetsOf l)))
+
+-- what follows a case's letter and blank
+pub rest-all : (l : List ℕ) → take (length l - 2) (drop 2 l) ≡ drop 2 l
+rest-all l = take-all (length l - 2) (drop 2 l) (omega (arith, length-drop 2 l))
