@@ -91,70 +91,27 @@ module _ {A : Type 0} where
       let i : k + 1 + length vs ≤ lim = omega arith in
       rw (puts-over lim l (k + 1) vs i g, lt-ltb k lim p, set-next l (vs ++ drop (k + 1 + length vs) l) k v q, e)
 
-ty-puts : (lim : ℕ) (t : Table) (k : ℕ) (rs : List Row) → puts lim t k rs .ty ≡ putsIn lim (t .ty) k (map (λ (r : Row). r .ty) rs)
-unfolding puts putRow
-ty-puts lim t k [] = refl
-ty-puts lim t k (r ∷ rs) = rw (ty-puts lim t (k + 1) rs)
+-- a column, where rows are stored one after another: with room enough they stand there, and all else is as it was
+column : {A : Type 0} (get : Table → List A) (f : Row → A) → ((lim : ℕ) (t : Table) (k : ℕ) (r : Row) → get (putRow lim t k r) ≡ put lim (get t) k (f r))
+    → (lim : ℕ) (t : Table) (k : ℕ) (rs : List Row) → k + length rs ≤ lim → lim ≤ length (get t) → get (puts lim t k rs) ≡ over k (get t) (map f rs)
+unfolding puts
+column {A} get f one lim t k rs h g = stored k rs ∙ puts-over lim (get t) k (map f rs) (rw (length-map rs f) h) g
+  where
+    stored : (k : ℕ) (rs : List Row) → get (puts lim t k rs) ≡ putsIn lim (get t) k (map f rs)
+    stored k [] = refl
+    stored k (r ∷ rs) = one lim (puts lim t (k + 1) rs) k r ∙ ap (λ (l : List A). put lim l k (f r)) (stored (k + 1) rs)
 
-own-puts : (lim : ℕ) (t : Table) (k : ℕ) (rs : List Row) → puts lim t k rs .own ≡ putsIn lim (t .own) k (map (λ (r : Row). r .own) rs)
-unfolding puts putRow
-own-puts lim t k [] = refl
-own-puts lim t k (r ∷ rs) = rw (own-puts lim t (k + 1) rs)
-
-label-puts : (lim : ℕ) (t : Table) (k : ℕ) (rs : List Row) → puts lim t k rs .label ≡ putsIn lim (t .label) k (map (λ (r : Row). r .label) rs)
-unfolding puts putRow
-label-puts lim t k [] = refl
-label-puts lim t k (r ∷ rs) = rw (label-puts lim t (k + 1) rs)
-
-number-puts : (lim : ℕ) (t : Table) (k : ℕ) (rs : List Row) → puts lim t k rs .number ≡ putsIn lim (t .number) k (map (λ (r : Row). r .number) rs)
-unfolding puts putRow
-number-puts lim t k [] = refl
-number-puts lim t k (r ∷ rs) = rw (number-puts lim t (k + 1) rs)
-
-first-puts : (lim : ℕ) (t : Table) (k : ℕ) (rs : List Row) → puts lim t k rs .first ≡ putsIn lim (t .first) k (map (λ (r : Row). r .first) rs)
-unfolding puts putRow
-first-puts lim t k [] = refl
-first-puts lim t k (r ∷ rs) = rw (first-puts lim t (k + 1) rs)
-
-second-puts : (lim : ℕ) (t : Table) (k : ℕ) (rs : List Row) → puts lim t k rs .second ≡ putsIn lim (t .second) k (map (λ (r : Row). r .second) rs)
-unfolding puts putRow
-second-puts lim t k [] = refl
-second-puts lim t k (r ∷ rs) = rw (second-puts lim t (k + 1) rs)
-
-place-puts : (lim : ℕ) (t : Table) (k : ℕ) (rs : List Row) → puts lim t k rs .place ≡ putsIn lim (t .place) k (map (λ (r : Row). r .place) rs)
-unfolding puts putRow
-place-puts lim t k [] = refl
-place-puts lim t k (r ∷ rs) = rw (place-puts lim t (k + 1) rs)
-
-below-puts : (lim : ℕ) (t : Table) (k : ℕ) (rs : List Row) → puts lim t k rs .below ≡ putsIn lim (t .below) k (map (λ (r : Row). r .below) rs)
-unfolding puts putRow
-below-puts lim t k [] = refl
-below-puts lim t k (r ∷ rs) = rw (below-puts lim t (k + 1) rs)
-
-start-puts : (lim : ℕ) (t : Table) (k : ℕ) (rs : List Row) → puts lim t k rs .start ≡ putsIn lim (t .start) k (map (λ (r : Row). r .start) rs)
-unfolding puts putRow
-start-puts lim t k [] = refl
-start-puts lim t k (r ∷ rs) = rw (start-puts lim t (k + 1) rs)
-
-end-puts : (lim : ℕ) (t : Table) (k : ℕ) (rs : List Row) → puts lim t k rs .end ≡ putsIn lim (t .end) k (map (λ (r : Row). r .end) rs)
-unfolding puts putRow
-end-puts lim t k [] = refl
-end-puts lim t k (r ∷ rs) = rw (end-puts lim t (k + 1) rs)
-
-column : {A : Type 0} (lim : ℕ) (l : List A) (k : ℕ) (f : Row → A) (rs : List Row) → k + length rs ≤ lim → lim ≤ length l → putsIn lim l k (map f rs) ≡ over k l (map f rs)
-column lim l k f rs h g = let e : k + length (map f rs) ≤ lim = rw (length-map rs f) h in puts-over lim l k (map f rs) e g
-
--- with room enough, the rows stand there and all else is as it was
 pub puts-filled : (lim : ℕ) (t : Table) (k : ℕ) (rs : List Row) → k + length rs ≤ lim → Roomy lim t → Filled k rs t (puts lim t k rs)
+unfolding putRow
 puts-filled lim t k rs h g = record {
-  ty-filled = ty-puts lim t k rs ∙ column lim (t .ty) k (λ (r : Row). r .ty) rs h (g .ty-room);
-  own-filled = own-puts lim t k rs ∙ column lim (t .own) k (λ (r : Row). r .own) rs h (g .own-room);
-  label-filled = label-puts lim t k rs ∙ column lim (t .label) k (λ (r : Row). r .label) rs h (g .label-room);
-  number-filled = number-puts lim t k rs ∙ column lim (t .number) k (λ (r : Row). r .number) rs h (g .number-room);
-  first-filled = first-puts lim t k rs ∙ column lim (t .first) k (λ (r : Row). r .first) rs h (g .first-room);
-  second-filled = second-puts lim t k rs ∙ column lim (t .second) k (λ (r : Row). r .second) rs h (g .second-room);
-  place-filled = place-puts lim t k rs ∙ column lim (t .place) k (λ (r : Row). r .place) rs h (g .place-room);
-  below-filled = below-puts lim t k rs ∙ column lim (t .below) k (λ (r : Row). r .below) rs h (g .below-room);
-  start-filled = start-puts lim t k rs ∙ column lim (t .start) k (λ (r : Row). r .start) rs h (g .start-room);
-  end-filled = end-puts lim t k rs ∙ column lim (t .end) k (λ (r : Row). r .end) rs h (g .end-room);
+  ty-filled = column (λ (t : Table). t .ty) (λ (r : Row). r .ty) (λ lim t k r. refl) lim t k rs h (g .ty-room);
+  own-filled = column (λ (t : Table). t .own) (λ (r : Row). r .own) (λ lim t k r. refl) lim t k rs h (g .own-room);
+  label-filled = column (λ (t : Table). t .label) (λ (r : Row). r .label) (λ lim t k r. refl) lim t k rs h (g .label-room);
+  number-filled = column (λ (t : Table). t .number) (λ (r : Row). r .number) (λ lim t k r. refl) lim t k rs h (g .number-room);
+  first-filled = column (λ (t : Table). t .first) (λ (r : Row). r .first) (λ lim t k r. refl) lim t k rs h (g .first-room);
+  second-filled = column (λ (t : Table). t .second) (λ (r : Row). r .second) (λ lim t k r. refl) lim t k rs h (g .second-room);
+  place-filled = column (λ (t : Table). t .place) (λ (r : Row). r .place) (λ lim t k r. refl) lim t k rs h (g .place-room);
+  below-filled = column (λ (t : Table). t .below) (λ (r : Row). r .below) (λ lim t k r. refl) lim t k rs h (g .below-room);
+  start-filled = column (λ (t : Table). t .start) (λ (r : Row). r .start) (λ lim t k r. refl) lim t k rs h (g .start-room);
+  end-filled = column (λ (t : Table). t .end) (λ (r : Row). r .end) (λ lim t k r. refl) lim t k rs h (g .end-room);
 }
