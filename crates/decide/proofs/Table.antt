@@ -1,32 +1,72 @@
 -- The types by their classes.
-use mathlib.Core.Path.{_≡_, refl, sym, subst}
-use mathlib.Core.Bool.{Bool, true, false, _||_, not}
-use mathlib.Core.List.{List, [], _∷_}
+use mathlib.Core.Path.{_≡_, refl, sym, ap, subst, _∙_}
+use mathlib.Core.Bool.{Bool, true, false, _&&_, _||_, not}
+use mathlib.Core.List.{List, [], _∷_, map}
+use mathlib.Core.Logic.{_⊎_, inl, inr}
 use Prim.Native.Nat.{ℕ, zero, suc, _+_, _-_, _<_, _≤_}
 use native.Mathlib.Omega.{arith}
-use mathlib.Core.Logic.{_⊎_, inl, inr}
-use lib.Dec.{ltb}
-use lib.IntN.{negsuc}
+use lib.Dec.{ltb, lit<}
+use lib.IntN.{ℤ, pos, negsuc}
+use lib.Signed.{ltZ}
 use borrow.Author.Tests.{ltb-true, ltb-false, lt-ltb, le-ltb, not-true}
+use mir.Syntax.{w32}
+use mir.Val.{SFits, toZ, ofZ}
+use Rattle.integer.proofs.Signs.{held}
 use Rattle.format.specs.Types.{kindOf}
+use Rattle.scalar.specs.declared.Bits.the-variants.{Bits32}
 use Rattle.decide.specs.declared.Class.{Class}
-use Rattle.decide.specs.declared.Class.the-variants.{Refused, Small}
-use Rattle.decide.specs.Classes.{Is, Span, ClassOf}
+use Rattle.decide.specs.declared.Class.the-variants.{Refused, Small, Int, Holder}
+use Rattle.decide.specs.declared.Inside.the-variants.{User}
+use Rattle.decide.specs.Classes.{Is, isSturdy, leastOf, elementary, ClassOf, bitsOf}
 use Rattle.decide.proofs.Keys.{any, below, below-at, Missed, missed}
 
--- a class known at a key
-pub is-at : {r : Class} {n k : ℕ} → n ≡ k → Is r (negsuc k) → Span r k → ClassOf n r
-is-at {r} e h s = record { is = subst (λ (m : ℕ). Is r (negsuc m)) (sym e) h; span = subst (Span r) (sym e) s }
+pub clash : {A : Type 0} {t : Bool} → t ≡ true → t ≡ false → A
+clash e f = let z : _≡_ {A = ℕ} 0 1 = cc in absurd (omega arith)
 
--- at one of two keys
-pub is-either : {r : Class} {n k j : ℕ} → (n ≡ k) ⊎ (n ≡ j) → Is r (negsuc k) → Is r (negsuc j) → Span r k → Span r j → ClassOf n r
-is-either (inl e) h g s t = is-at e h s
-is-either (inr e) h g s t = is-at e g t
+-- ---- the keys of a `match` on a type, as the code holds it
+
+module _ {t : ℤ} (f : SFits w32 t) where
+  pub key : {k : ℕ} → ofZ w32 t ≡ k → t ≡ toZ w32 k
+  key e = sym (held f) ∙ ap (toZ w32) e
+
+  -- a class known at a key
+  pub is-at : {r : Class} {k : ℕ} → ofZ w32 t ≡ k → ClassOf (toZ w32 k) r → ClassOf t r
+  is-at {r} e h = subst (λ (z : ℤ). ClassOf z r) (sym (key e)) h
+
+  -- at one of two keys
+  pub is-either : {r : Class} {k j : ℕ} → (ofZ w32 t ≡ k) ⊎ (ofZ w32 t ≡ j) → ClassOf (toZ w32 k) r → ClassOf (toZ w32 j) r → ClassOf t r
+  is-either (inl e) h g = is-at e h
+  is-either (inr e) h g = is-at e g
+
+-- a class of element types, and another
+pub as-element : {t : ℤ} {r : Class} → Is r t → isSturdy r ≡ elementary t → 0 < leastOf r → ClassOf t r
+as-element i s l = record { is = i; sturdy = s; least = λ _. l }
+
+pub no-element : {t : ℤ} {r : Class} → Is r t → isSturdy r ≡ false → false ≡ elementary t → ClassOf t r
+no-element i n s = record { is = i; sturdy = n ∙ s; least = λ e. clash e n }
+
+refused : {t : ℤ} → kindOf t .carried ≡ false → ClassOf t Refused
+refused e = no-element e refl (rw e)
+
+-- as a call made it
+pub made : {t : ℤ} {r q : Class} → r ≡ q → ClassOf t q → ClassOf t r
+made {t} e h = subst (ClassOf t) (sym e) h
+
+-- ---- the ranges
+
+pub is-user : (t : ℤ) → ltZ t (pos 0) ≡ false → ClassOf t (Holder (record { first = false; second = false; inside = User }))
+unfolding kindOf
+is-user (pos n) h = as-element refl refl (lit< tt)
+is-user (negsuc n) h = clash refl h
 
 -- below -64 nothing is known
-pub is-below : (n : ℕ) → 64 ≤ n → ClassOf n Refused
+unknown : (n : ℕ) → 64 ≤ n → kindOf (negsuc n) .carried ≡ false
 unfolding kindOf
-is-below n h = record { is = rw (le-ltb n 40 (omega arith), le-ltb n 64 h); span = tt }
+unknown n h = rw (le-ltb n 40 (omega arith), le-ltb n 64 h)
+
+pub is-below : (t : ℤ) → ltZ t (negsuc 63) ≡ true → ClassOf t Refused
+is-below (pos n) h = clash h refl
+is-below (negsuc n) h = refused (unknown n (omega (arith, ltb-true 63 n h)))
 
 -- -33 to -64: eight of the table, and the integers
 some : (m : ℕ) → m < 8 → Is Small (negsuc (32 + m))
@@ -41,35 +81,73 @@ some (suc (suc (suc (suc (suc (suc zero)))))) h = (_, _, refl)
 some (suc (suc (suc (suc (suc (suc (suc zero))))))) h = (_, _, refl)
 some (suc (suc (suc (suc (suc (suc (suc (suc m)))))))) h = absurd (omega arith)
 
-pub is-small : (n : ℕ) → 32 ≤ n → n < 64 → ClassOf n Small
+small : (n : ℕ) → 32 ≤ n → n < 64 → Is Small (negsuc n)
 unfolding kindOf
-is-small n h g = by (ltb n 40) refl
+small n h g = by (ltb n 40) refl
   where
-    by : (t : Bool) → ltb n 40 ≡ t → ClassOf n Small
-    by true e = let q = ltb-true n 40 e in is-at {k = 32 + (n - 32)} (omega arith) (some (n - 32) (omega arith)) (omega arith)
-    by false e = record { is = rw (le-ltb n 40 (ltb-false n 40 e), lt-ltb n 64 g) (_, _, refl); span = omega arith }
+    by : (b : Bool) → ltb n 40 ≡ b → Is Small (negsuc n)
+    by true e = let p = ltb-true n 40 e in let d : n ≡ 32 + (n - 32) = omega arith in rw d (some (n - 32) (omega arith))
+    by false e = rw (le-ltb n 40 (ltb-false n 40 e), lt-ltb n 64 g) (_, _, refl)
 
--- the arms that carry a type between -1 and -32
+too-low : (n : ℕ) → 30 ≤ n → false ≡ elementary (negsuc n)
+too-low n h = rw (le-ltb n 30 h) (by (kindOf (negsuc n) .carried))
+  where
+    by : (a : Bool) → false ≡ a && false
+    by true = refl
+    by false = refl
+
+pub is-small : (t : ℤ) → ltZ t (negsuc 63) ≡ false → ltZ t (negsuc 31) ≡ true → ClassOf t Small
+is-small (pos n) h g = clash g refl
+is-small (negsuc n) h g = let p = ltb-false 63 n h in let q = ltb-true 31 n g in no-element (small n (omega arith) (omega arith)) refl (too-low n (omega arith))
+
+-- -1 to -3 and -11: packed integers
+pub is-packed : (t : ℤ) → ltZ t (negsuc 2) ≡ false → ltZ t (pos 0) ≡ true → ClassOf t (Int (bitsOf t))
+unfolding kindOf
+is-packed (pos n) h g = absurd (omega (arith, ltb-true n 0 g))
+is-packed (negsuc zero) h g = as-element (_, refl) refl (lit< tt)
+is-packed (negsuc (suc zero)) h g = as-element (_, refl) refl (lit< tt)
+is-packed (negsuc (suc (suc zero))) h g = as-element (_, refl) refl (lit< tt)
+is-packed (negsuc (suc (suc (suc n)))) h g = absurd (omega (arith, ltb-false 2 (suc (suc (suc n))) h))
+
+pub is-boolean : {t : ℤ} → t ≡ negsuc 10 → ClassOf t (Int (bitsOf t))
+unfolding kindOf
+is-boolean e = subst (λ (z : ℤ). ClassOf z (Int (bitsOf z))) (sym e) (as-element (_, refl) refl (lit< tt))
+
+-- the keys between -4 and -32, by n of the type -1 - n
 abbrev keys : List (List ℕ)
-keys = (0 ∷ []) ∷ (1 ∷ 10 ∷ []) ∷ (2 ∷ []) ∷ (4 ∷ []) ∷ (5 ∷ []) ∷ (11 ∷ []) ∷ (12 ∷ []) ∷ (13 ∷ []) ∷ (14 ∷ []) ∷ (15 ∷ []) ∷ (17 ∷ []) ∷ (19 ∷ [])
-    ∷ (21 ∷ 23 ∷ []) ∷ (22 ∷ 24 ∷ []) ∷ (25 ∷ []) ∷ (26 ∷ []) ∷ (27 ∷ []) ∷ (28 ∷ []) ∷ (29 ∷ []) ∷ (30 ∷ []) ∷ (31 ∷ []) ∷ []
+keys = map (map (λ n. ofZ w32 (negsuc n)))
+    ((10 ∷ []) ∷ (4 ∷ []) ∷ (5 ∷ []) ∷ (11 ∷ []) ∷ (12 ∷ []) ∷ (13 ∷ []) ∷ (14 ∷ []) ∷ (15 ∷ []) ∷ (17 ∷ []) ∷ (19 ∷ []) ∷ (23 ∷ 21 ∷ []) ∷ (24 ∷ 22 ∷ [])
+    ∷ (25 ∷ []) ∷ (26 ∷ []) ∷ (27 ∷ []) ∷ (28 ∷ []) ∷ (29 ∷ []) ∷ (30 ∷ []) ∷ (31 ∷ []) ∷ [])
 
 -- and the others between them are not carried: one test over all
 listed : ℕ → Bool
-listed n = any keys n || not (kindOf (negsuc n) .carried)
+listed n = ltb n 3 || (any keys (ofZ w32 (negsuc n)) || not (kindOf (negsuc n) .carried))
 
 all-listed : below listed 32 ≡ true
 unfolding kindOf listed
 all-listed = refl
 
-pub is-rest : (n : ℕ) → n < 32 → Missed keys n (Unit {0}) → ClassOf n Refused
+pub is-rest : (t : ℤ) → ltZ t (negsuc 31) ≡ false → ltZ t (negsuc 2) ≡ true → Missed keys (ofZ w32 t) (Unit {0}) → ClassOf t Refused
 unfolding listed
-is-rest n h m = record { is = by (any keys n) (kindOf (negsuc n) .carried) (missed keys n m) (below-at listed 32 all-listed n h); span = tt }
+is-rest (pos n) h g m = clash g refl
+is-rest (negsuc n) h g m =
+    refused
+    (by (ltb n 3) (any keys (ofZ w32 (negsuc n))) (kindOf (negsuc n) .carried) (le-ltb n 3 (omega (arith, ltb-true 2 n g))) (missed keys (ofZ w32 (negsuc n)) m)
+    (below-at listed 32 all-listed n (omega (arith, ltb-false 31 n h))))
   where
-    by : (a c : Bool) → a ≡ false → a || not c ≡ true → c ≡ false
-    by true c e t = let z : _≡_ {A = ℕ} 0 1 = cc in absurd (omega arith)
-    by false c e t = not-true c t
+    by : (l a c : Bool) → l ≡ false → a ≡ false → l || (a || not c) ≡ true → c ≡ false
+    by true a c d e t = clash refl d
+    by false true c d e t = clash refl e
+    by false false c d e t = not-true c t
 
--- as a call made it
-pub made : {n : ℕ} {r q : Class} → r ≡ q → ClassOf n q → ClassOf n r
-made {n} e h = subst (ClassOf n) (sym e) h
+-- ---- the bits
+
+pub bits-at : {t : ℤ} → SFits w32 t → {k : ℕ} → ofZ w32 t ≡ k → bitsOf (toZ w32 k) ≡ bitsOf t
+bits-at f e = ap bitsOf (sym (key f e))
+
+pub bits-rest : (t : ℤ) → Missed ((ofZ w32 (negsuc 0) ∷ []) ∷ (ofZ w32 (negsuc 2) ∷ []) ∷ []) (ofZ w32 t) (Unit {0}) → Bits32 ≡ bitsOf t
+bits-rest (pos n) m = refl
+bits-rest (negsuc zero) m = absurd (m .0 .1 refl)
+bits-rest (negsuc (suc zero)) m = refl
+bits-rest (negsuc (suc (suc zero))) m = absurd (m .1 refl)
+bits-rest (negsuc (suc (suc (suc n)))) m = refl

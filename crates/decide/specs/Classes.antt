@@ -1,9 +1,12 @@
 -- What the class of a type tells of its data.
 use mathlib.Core.Path.{_≡_}
-use mathlib.Core.Bool.{Bool, true, false, cond}
-use Prim.Native.Nat.{ℕ, _<_, _≤_}
-use lib.IntN.{ℤ, negsuc}
+use mathlib.Core.Bool.{Bool, true, false, cond, _&&_}
+use Prim.Native.Nat.{ℕ, zero, suc, _<_}
+use lib.IntN.{ℤ, pos, negsuc}
+use lib.Signed.{ltZ}
 use Rattle.format.specs.Types.{packed, fixed, code, implied, Text, octets, characters, Holds, nothing, values, couples, indexes, properties, one, silent, gives, refers, Sort, scalar, string, dated, container, kindOf}
+use Rattle.scalar.specs.declared.Bits.{Bits}
+use Rattle.scalar.specs.declared.Bits.the-variants.{Bits16, Bits32, Bits64}
 use Rattle.scalar.specs.Answers.{widthOf}
 use Rattle.scalar.specs.Moments.{partsOf}
 use Rattle.decide.specs.declared.Inside.{Inside}
@@ -34,24 +37,6 @@ Is (Holder h) t = kindOf t ≡ container (h .first) (h .second) (holdsOf (h .ins
 Is Identity t = kindOf t ≡ container false false one gives
 Is Reference t = kindOf t ≡ container false false nothing refers
 
--- which types -1 - n it can be of
-abbrev pub Span : Class → ℕ → Type 0
-Span Refused n = Unit {0}
-Span Small n = 30 ≤ n
-Span (Int b) n = n < 30
-Span (Fixed k) n = (n < 30) × (0 < k)
-Span Char n = n < 30
-Span (Parted d) n = n < 30
-Span (Texted chars) n = n < 30
-Span (Holder h) n = n < 30
-Span Identity n = n ≡ 30
-Span Reference n = 31 ≤ n
-
--- the type -1 - n has the class
-pub record ClassOf (n : ℕ) (r : Class) : Type 0 where
-  pub is : Is r (negsuc n)
-  pub span : Span r n
-
 -- a class that an element type may have: its data take an octet at least
 abbrev pub isSturdy : Class → Bool
 isSturdy Refused = false
@@ -77,3 +62,21 @@ leastOf (Texted chars) = 1
 leastOf (Holder h) = 1
 leastOf Identity = 1
 leastOf Reference = 1
+
+-- whether a type may be an element type: any carried type above -31
+abbrev pub elementary : ℤ → Bool
+elementary t = kindOf t .carried && ltZ (negsuc 30) t
+
+-- the class of a type
+pub record ClassOf (t : ℤ) (r : Class) : Type 0 where
+  pub is : Is r t
+  pub sturdy : isSturdy r ≡ elementary t
+  pub least : isSturdy r ≡ true → 0 < leastOf r
+
+-- the bits of a packed integer type: -1 has 16, -3 has 64, -2 and -11 have 32
+abbrev pub bitsOf : ℤ → Bits
+bitsOf (pos n) = Bits32
+bitsOf (negsuc zero) = Bits16
+bitsOf (negsuc (suc zero)) = Bits32
+bitsOf (negsuc (suc (suc zero))) = Bits64
+bitsOf (negsuc (suc (suc (suc n)))) = Bits32

@@ -12,7 +12,7 @@ use Rattle.decide.specs.declared.Amount.{Amount}
 use Rattle.decide.specs.declared.Amount.the-variants.{Number, NoNumber}
 use Rattle.decide.specs.declared.Element.{Element}
 use Rattle.decide.specs.declared.Element.the-variants.{Of, NoType}
-use Rattle.decide.specs.Classes.{Is, isSturdy, leastOf}
+use Rattle.decide.specs.Classes.{elementary}
 
 -- an integer of 0 or more
 abbrev pub amountOut : List ℕ → Env → Amount → Out ℤ
@@ -27,10 +27,9 @@ pub record AmountAt (o : List ℕ) (at : ℕ) (r : Amount) : Type 0 where
   pub same : (e : Env) → amountOut o e r ≡ number amount (stand o at e)
   pub past : pastAmount o at r
 
--- an element type: its class, the type being known to the reading alone
+-- an element type
 abbrev pub ElementIs : List ℕ → ℕ → Element → Type 0
-ElementIs o at (Of next c) =
-    (t : ℤ) × Is c t × (isSturdy c ≡ true) × (0 < leastOf c) × (at < next) × (next ≤ length o) × ((e : Env) → element true (stand o at e) ≡ got t (stand o next e))
+ElementIs o at (Of next t) = (elementary t ≡ true) × (at < next) × (next ≤ length o) × ((e : Env) → element true (stand o at e) ≡ got t (stand o next e))
 ElementIs o at (NoType r) = (e : Env) → element true (stand o at e) ≡ stop r
 
 pub record ElementAt (o : List ℕ) (at : ℕ) (r : Element) : Type 0 where

@@ -1,6 +1,7 @@
 ghost use mathlib.Core.Path.{_≡_};
-ghost use Rattle.decide.specs.Classes.{ClassOf, isSturdy};
+ghost use Rattle.decide.specs.Classes.{bitsOf, ClassOf, isSturdy};
 ghost use Rattle.decide.specs.Elements.{AmountAt, ElementAt};
+use integer::Read32;
 use integer::Signed;
 use reading::Refusal;
 use scalar::Bits;
@@ -46,38 +47,43 @@ pub fn holder(first: bool, second: bool, inside: Inside) -> Class
     })
 }
 
-// The class of the type -1 - n.
-pub fn class_of(n: u32) -> Class
-    ensures { λ r. ⌜ ClassOf n r ⌝ }
+// The bits of a packed integer type.
+fn bits_of(t: i32) -> Bits
+    ensures { λ r. ⌜ r ≡ bitsOf t ⌝ }
 {
-    if 64 <= n {
-        return Class::Refused;
+    match t {
+        -1 => Bits::Bits16,
+        -3 => Bits::Bits64,
+        _ => Bits::Bits32,
     }
-    if 32 <= n {
-        return Class::Small;
-    }
-    match n {
-        0 => Class::Int(Bits::Bits16),
-        1 | 10 => Class::Int(Bits::Bits32),
-        2 => Class::Int(Bits::Bits64),
-        4 => Class::Fixed(4),
-        5 => Class::Fixed(8),
-        11 => Class::Fixed(1),
-        12 => Class::Text(false),
-        13 => Class::Char,
-        14 => Class::Text(true),
-        15 => Class::Parts(Which::Date),
-        17 => Class::Parts(Which::Time),
-        19 => Class::Parts(Which::DateTime),
-        21 | 23 => holder(false, false, Inside::List),
-        22 | 24 => holder(true, false, Inside::List),
-        25 => holder(false, false, Inside::Sparse),
-        26 => holder(true, false, Inside::Sparse),
-        27 => holder(false, false, Inside::Pairs),
-        28 => holder(true, false, Inside::Pairs),
-        29 => holder(true, true, Inside::Pairs),
-        30 => Class::Identity,
-        31 => Class::Reference,
+}
+
+// The class of a type.
+pub fn class_of(t: i32) -> Class
+    ensures { λ r. ⌜ ClassOf t r ⌝ }
+{
+    match t {
+        0..=2147483647 => holder(false, false, Inside::User),
+        -1 | -2 | -3 | -11 => Class::Int(bits_of(t)),
+        -5 => Class::Fixed(4),
+        -6 => Class::Fixed(8),
+        -12 => Class::Fixed(1),
+        -13 => Class::Text(false),
+        -14 => Class::Char,
+        -15 => Class::Text(true),
+        -16 => Class::Parts(Which::Date),
+        -18 => Class::Parts(Which::Time),
+        -20 => Class::Parts(Which::DateTime),
+        -22 | -24 => holder(false, false, Inside::List),
+        -23 | -25 => holder(true, false, Inside::List),
+        -26 => holder(false, false, Inside::Sparse),
+        -27 => holder(true, false, Inside::Sparse),
+        -28 => holder(false, false, Inside::Pairs),
+        -29 => holder(true, false, Inside::Pairs),
+        -30 => holder(true, true, Inside::Pairs),
+        -31 => Class::Identity,
+        -32 => Class::Reference,
+        -64..=-33 => Class::Small,
         _ => Class::Refused,
     }
 }
@@ -120,9 +126,9 @@ pub fn amount_at(src: &[u8], at: usize) -> Amount
     }
 }
 
-// An element type by its class and the place past it, or a refusal.
+// An element type and the place past it, or a refusal.
 pub enum Element {
-    Of(usize, Class),
+    Of(usize, i32),
     NoType(Refusal),
 }
 
@@ -130,18 +136,16 @@ pub enum Element {
 pub fn element_at(src: &[u8], at: usize) -> Element
     ensures { λ r. ⌜ ElementAt (now (src .entry)) at r ⌝ }
 {
-    match integer::signed_at(src, at) {
-        Signed::Positive(next, _) => Element::Of(next, holder(false, false, Inside::User)),
-        Signed::Negative(next, n) => {
-            let c = class_of(n);
-            if sturdy(c) {
-                return Element::Of(next, c);
+    match integer::int32_at(src, at) {
+        Read32::Int32(next, t) => {
+            if sturdy(class_of(t)) {
+                return Element::Of(next, t);
             }
             Element::NoType(Refusal {
                 place: at,
                 number: 4,
             })
         }
-        Signed::Faulty(r) => Element::NoType(r),
+        Read32::Refused32(r) => Element::NoType(r),
     }
 }
