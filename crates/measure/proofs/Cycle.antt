@@ -7,15 +7,15 @@ use native.Mathlib.Omega.{arith}
 use lib.ListN.{length}
 use lib.IntN.{ℤ}
 use Rattle.reading.specs.declared.Refusal.{Refusal}
-use Rattle.reading.specs.Reading.{Env, State, Out, got, stop, refusal, Reader, stand, follow, _>>=_, return, require, refuse, names, rename}
+use Rattle.reading.specs.Reading.{Env, State, Out, got, stop, refusal, Reader, stand, follow, _>>=_, return, require, here, refuse, names, rename}
 use Rattle.format.specs.Types.{Names, silent, refers, Kind, kindOf}
-use Rattle.format.specs.Values.{Form, Rule, Inner, may, begun, closed, leave, each, dataOf}
+use Rattle.format.specs.Values.{Form, whole, bare, Rule, Inner, may, begun, closed, leave, each, dataOf}
 use Rattle.decide.specs.declared.Class.{Class}
 use Rattle.decide.specs.declared.Class.the-variants.{Refused, Small, Int, Fixed, Char, Holder, Identity, Reference}
 use Rattle.decide.specs.declared.Class.the-variants.{Text as Texted, Parts as Parted}
-use Rattle.decide.specs.Classes.{Is}
+use Rattle.decide.specs.Classes.{Is, ClassOf}
 use Rattle.measure.specs.declared.Stand.{Stand}
-use Rattle.measure.specs.declared.Head.{Head}
+use Rattle.measure.specs.declared.Stand.the-variants.{Bare}
 use Rattle.measure.specs.declared.Head.the-variants.{Typing, Odd}
 use Rattle.measure.specs.declared.Nest.{Nest}
 use Rattle.measure.specs.declared.Plan.{Plan}
@@ -27,7 +27,7 @@ use Rattle.measure.specs.declared.Step.the-variants.{On, Stop}
 use Rattle.measure.specs.Tally.{plus, valueRows, childRows, opening, inside, onward, rest}
 use Rattle.measure.specs.Gates.{Apt, OneForm, gateOut, pastGate, GateAt}
 use Rattle.measure.specs.Identities.{given, ended, envOf, nameOf, one, Ids, Begun, Closed}
-use Rattle.measure.specs.Plans.{Stands, judged, NestIs, PlanIs, HeadIs, HeadAt, ValuePlan}
+use Rattle.measure.specs.Plans.{Means, Stands, judged, NestIs, PlanIs, HeadAt, ValuePlan}
 use Rattle.measure.specs.Cycle.{TooDeep, DeepAt, stepOut, Going, CanRead, HasRead, Forms, CanHold, HasHeld}
 
 -- ---- level 17
@@ -91,11 +91,19 @@ deep-first {once} e = record { refuses = λ t own p s i. deep-kind once t own p 
 pub as-deep : {c k : Class} {once : Bool} {n : ℕ} → c ≡ k → TooDeep k once n → TooDeep c once n
 as-deep {once} {n} e d = subst (λ (x : Class). TooDeep x once n) (sym e) d
 
-pub deep-odd : {o : List ℕ} {w : Stand} {at : ℕ} {x : Head} {r : Refusal} → HeadAt o w at x → x ≡ Odd r → DeepAt o w at r
-deep-odd {o} {w} {at} h e = record { refuses = λ f s v. subst (HeadIs o f at) e (h .is f s) (dataOf 0) v }
+pub deep-odd : {o : List ℕ} {w : Stand} {at : ℕ} {r : Refusal} → HeadAt o w at (Odd r) → DeepAt o w at r
+deep-odd h = record { refuses = λ f s v. h .is f s (dataOf 0) v }
 
-pub deep-typed : {o : List ℕ} {w : Stand} {at from n : ℕ} {c : Class} {once : Bool} {x : Head} → HeadAt o w at x → x ≡ Typing from c once → TooDeep c once n → DeepAt o w at (refusal n at)
-deep-typed {o} {w} {at} {from} h e d = record { refuses = λ f s v. let q = subst (HeadIs o f at) e (h .is f s) in q .6 (dataOf 0) v ∙ d .refuses (q .0) (q .1) at (stand o from v) (q .2) }
+pub deep-typed : {o : List ℕ} {w : Stand} {at from n : ℕ} {t : ℤ} {c : Class} {once : Bool} → HeadAt o w at (Typing from t once) → ClassOf t c → TooDeep c once n → DeepAt o w at (refusal n at)
+deep-typed {o} {at = at} {from = from} {t = t} h k d = record { refuses = λ f s v. let q = h .is f s in q .4 (dataOf 0) v ∙ d .refuses t (q .0) at (stand o from v) (k .is) }
+
+pub deep-bare : {o : List ℕ} {w : Stand} {at : ℕ} {t : ℤ} → w ≡ Bare t → DeepAt o w at (refusal 8 at)
+unfolding each _>>=_ here stand dataOf refuse
+deep-bare {o} {w} {at} {t} e = record { refuses = λ f s v. by f v (subst (λ (v : Stand). Means v f) e (s .means)) }
+  where
+    by : (f : Form) (v : Env) → Means (Bare t) f → each (dataOf 0) f (stand o at v) ≡ stop (refusal 8 at)
+    by (whole b) v m = absurd m
+    by (bare u) v m = refl
 
 -- ---- the value reader
 

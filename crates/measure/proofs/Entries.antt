@@ -29,7 +29,7 @@ use Rattle.measure.proofs.Cycle.{inside-opened}
 
 -- the outermost value as the one element of a container
 abbrev pub alone : ℕ → Nest
-alone at = record { indexed = false; named = false; id = 0; form = Whole; other = Whole; count = 1; from = at }
+alone at = record { indexed = false; named = false; id = 0; form = Whole false; other = Whole false; count = 1; from = at }
 
 -- no identities
 pub record Fresh (l : List ℕ) : Type 0 where
@@ -41,7 +41,7 @@ fresh-env : {l : List ℕ} → Fresh l → envOf l ≡ none
 unfolding envOf listed
 fresh-env {l} f = rw (f .no-given, f .no-ended)
 
-whole-forms : Forms Whole Whole false (whole false) (whole false)
+whole-forms : Forms (Whole false) (Whole false) false (whole false) (whole false)
 whole-forms = record { first = record { means = refl }; second = record { means = refl }; alike = tt }
 
 pub first-can-hold : {o l : List ℕ} {at : ℕ} → at ≤ length o → length o ≤ 65535 → Fresh l → CanHold o l (alone at) 0

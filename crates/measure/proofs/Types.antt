@@ -2,16 +2,19 @@
 use mathlib.Core.Path.{_≡_, refl, sym, ap, subst, _∙_}
 use mathlib.Core.Bool.{Bool, true, false}
 use mathlib.Core.List.{List, []}
-use Prim.Native.Nat.{ℕ, suc, _+_, _*_, _≤_}
+use Prim.Native.Nat.{ℕ, suc, _+_, _*_, _^_, _<_, _≤_}
 use native.Mathlib.Omega.{arith}
 use lib.ListN.{length}
 use lib.IntN.{ℤ, pos}
+use lib.Signed.{mag}
+use mir.Syntax.{w32}
+use mir.Val.{toZ, ofZ}
+use Rattle.integer.proofs.Signs.{held}
 use Rattle.reading.specs.declared.Refusal.{Refusal}
 use Rattle.reading.specs.Reading.{State, Out, got, stop, Reader, stand, follow, _>>=_, return}
 use Rattle.format.specs.Types.{amount, silent, container, kindOf}
 use Rattle.format.specs.Data.{number, element}
 use Rattle.format.specs.Values.{whole, formed, Rule, counted, head, ruleBy, Inner, dataOf}
-use Rattle.decide.specs.declared.Class.{Class}
 use Rattle.decide.specs.declared.Shape.{Shape}
 use Rattle.decide.specs.declared.Inside.{Inside}
 use Rattle.decide.specs.declared.Inside.the-variants.{Pairs, Sparse, User, List as Several}
@@ -36,7 +39,7 @@ use Rattle.measure.proofs.Plans.{judged-silent}
 
 -- ---- an element type
 
-pub type-off : {o : List ℕ} {on : Bool} {at : ℕ} → on ≡ false → at ≤ length o → TypeAt o on at (Shown at Whole)
+pub type-off : {o : List ℕ} {on : Bool} {at : ℕ} → on ≡ false → at ≤ length o → TypeAt o on at (Shown at (Whole false))
 unfolding element return
 type-off e h = rw e record { is = (pos 0, record { means = refl }, omega arith, h, λ _. refl) }
 
@@ -44,9 +47,9 @@ module _ {o : List ℕ} {on : Bool} {at : ℕ} {x : Element} (found : ElementAt 
   pub type-alien : {r : Refusal} → x ≡ NoType r → TypeAt o on at (Alien r)
   type-alien h = rw yes record { is = subst (ElementIs o at) h (found .is) }
 
-  pub type-shown : {next : ℕ} {c : Class} → x ≡ Of next c → TypeAt o on at (Shown next (Bare c))
-  type-shown h = let f = subst (ElementIs o at) h (found .is) in
-      rw yes record { is = (f .0, record { means = (f .1, f .2, f .3) }, omega (arith, f .4), f .5, f .6) }
+  pub type-shown : {next : ℕ} {z : ℤ} → x ≡ Of next z → mag z < 2 ^ 31 → TypeAt o on at (Shown next (Bare (toZ w32 (ofZ w32 z))))
+  type-shown {z = z} h g = let f = subst (ElementIs o at) h (found .is) in
+      rw (held {w = w32} {z = z} (record { sfits = g }), yes) record { is = (z, record { means = (refl, f .0) }, omega (arith, f .1), f .2, f .3) }
 
 -- ---- a container
 

@@ -1,11 +1,16 @@
 -- The plan for a value, from its type and its data.
 use mathlib.Core.Path.{_≡_, refl, sym, ap, subst, _∙_}
-use mathlib.Core.Bool.{Bool}
+use mathlib.Core.Bool.{Bool, true}
 use mathlib.Core.List.{List}
-use Prim.Native.Nat.{ℕ, suc, _+_, _≤_}
+use mathlib.Core.Logic.{_⊎_, inl, inr}
+use Prim.Native.Nat.{ℕ, suc, _+_, _^_, _<_, _≤_}
 use native.Mathlib.Omega.{arith}
 use lib.ListN.{length}
 use lib.IntN.{ℤ}
+use lib.Signed.{mag}
+use mir.Syntax.{w32}
+use mir.Val.{toZ, ofZ}
+use Rattle.integer.proofs.Signs.{held}
 use Rattle.reading.specs.declared.Refusal.{Refusal}
 use Rattle.reading.specs.Reading.{State, Out, got, stop, stand, follow, _>>=_, return}
 use Rattle.format.specs.Types.{Parts}
@@ -19,7 +24,7 @@ use Rattle.scalar.specs.Answers.{momentOut, momentPast, Passing}
 use Rattle.scalar.specs.Moments.{partsOf, countOf}
 use Rattle.decide.specs.declared.Class.{Class}
 use Rattle.decide.specs.declared.Class.the-variants.{Parts as Parted}
-use Rattle.decide.specs.Classes.{leastOf}
+use Rattle.decide.specs.Classes.{leastOf, elementary, ClassOf}
 use Rattle.measure.specs.declared.Stand.{Stand}
 use Rattle.measure.specs.declared.Head.{Head}
 use Rattle.measure.specs.declared.Head.the-variants.{Typing, Odd}
@@ -78,10 +83,17 @@ pub value-odd : {o l : List ℕ} {w : Stand} {at : ℕ} {x : Head} {r : Refusal}
 unfolding valueRows _>>=_
 value-odd {o} {l} {w} {at} h e = record { plan = λ f s lv. ap (λ (y : Out Value). follow y (λ v. return (suc (count (v .inside))))) (subst (HeadIs o f at) e (h .is f s) (dataOf (suc lv)) (envOf l)) }
 
-pub value-typed : {o l : List ℕ} {w : Stand} {at from : ℕ} {c : Class} {once : Bool} {x : Head} {r : Plan} → HeadAt o w at x → x ≡ Typing from c once → DataPlan o l c once from at r → ValuePlan o l w at r
+-- an octet at least lies before the end of the data
+starts-before : {at from : ℕ} {t : ℤ} {c : Class} → ClassOf t c → at ≤ from → (at < from) ⊎ (elementary t ≡ true) → at + 1 ≤ from + leastOf c
+starts-before k h (inl p) = omega arith
+starts-before k h (inr e) = omega (arith, k .least (k .sturdy ∙ e))
+
+pub value-typed : {o l : List ℕ} {w : Stand} {at from : ℕ} {z : ℤ} {c : Class} {once : Bool} {x : Head} {r : Plan} → HeadAt o w at x → x ≡ Typing from z once → mag z < 2 ^ 31
+    → ClassOf (toZ w32 (ofZ w32 z)) c → DataPlan o l c once from at r → ValuePlan o l w at r
 unfolding valueRows _>>=_
-value-typed {o} {l} {w} {at} {from} {c} {once} {r} h e d = record {
+value-typed {o} {l} {w} {at} {from} {z} {c} {once} {r} h e g k d = record {
   plan = λ f s.
       let q = subst (HeadIs o f at) e (h .is f s) in
-      plan-as o l (at + 1) (from + leastOf c) _ _ r (omega (arith, q .5)) (λ lv. ap (λ (y : Out Value). follow y (λ v. return (suc (count (v .inside))))) (q .6 (dataOf (suc lv)) (envOf l))) (d .plan (q .0) (q .1) (q .2));
+      let j : ClassOf z c = subst (λ (t : ℤ). ClassOf t c) (held (record { sfits = g })) k in
+      plan-as o l (at + 1) (from + leastOf c) _ _ r (starts-before j (q .1) (q .3)) (λ lv. ap (λ (y : Out Value). follow y (λ v. return (suc (count (v .inside))))) (q .4 (dataOf (suc lv)) (envOf l))) (d .plan z (q .0) (j .is));
 }

@@ -2,6 +2,7 @@
 use mathlib.Core.Path.{_≡_}
 use mathlib.Core.Bool.{Bool, true, false}
 use mathlib.Core.List.{List}
+use mathlib.Core.Logic.{_⊎_}
 use Prim.Native.Nat.{ℕ, suc, _+_, _*_, _^_, _<_, _≤_}
 use lib.ListN.{length}
 use lib.IntN.{ℤ}
@@ -20,9 +21,9 @@ use Rattle.decide.specs.declared.Inside.the-variants.{Pairs, Sparse, User, List
 use Rattle.measure.specs.declared.Typed.{Typed}
 use Rattle.measure.specs.declared.Typed.the-variants.{Alien, Form as Shown}
 use Rattle.format.specs.Data.{element}
-use Rattle.decide.specs.Classes.{Is, isSturdy, leastOf}
+use Rattle.decide.specs.Classes.{Is, leastOf, elementary}
 use Rattle.measure.specs.declared.Stand.{Stand}
-use Rattle.measure.specs.declared.Stand.the-variants.{Whole, Once, Bare}
+use Rattle.measure.specs.declared.Stand.the-variants.{Whole, Bare}
 use Rattle.measure.specs.declared.Head.{Head}
 use Rattle.measure.specs.declared.Head.the-variants.{Typing, Odd}
 use Rattle.measure.specs.declared.Nest.{Nest}
@@ -32,14 +33,12 @@ use Rattle.measure.specs.Tally.{valueRows, inside, rest}
 use Rattle.measure.specs.Gates.{OneForm}
 use Rattle.measure.specs.Identities.{given, envOf, nameOf, one, Ids}
 
--- how a value stands, for the code and for the format: a bare value is told by the class of its type
+-- how a value stands, for the code and for the format: a bare value has a type that element types may have
 abbrev pub Means : Stand → Form → Type 0
-Means Whole (whole once) = once ≡ false
-Means Once (whole once) = once ≡ true
-Means (Bare c) (whole once) = ⊥
-Means Whole (bare t) = ⊥
-Means Once (bare t) = ⊥
-Means (Bare c) (bare t) = Is c t × (isSturdy c ≡ true) × (0 < leastOf c)
+Means (Whole a) (whole once) = a ≡ once
+Means (Bare a) (whole once) = ⊥
+Means (Whole a) (bare t) = ⊥
+Means (Bare a) (bare t) = (a ≡ t) × (elementary t ≡ true)
 
 pub record Stands (w : Stand) (f : Form) : Type 0 where
   pub means : Means w f
@@ -92,11 +91,11 @@ abbrev pub nestOf : Inside → Stand → Stand → ℕ → ℕ → Nest
 nestOf Several a b n from = record { indexed = false; named = false; id = 0; form = a; other = a; count = n; from = from }
 nestOf Pairs a b n from = record { indexed = false; named = false; id = 0; form = a; other = b; count = 2 * n; from = from }
 nestOf Sparse a b n from = record { indexed = true; named = false; id = 0; form = a; other = a; count = n; from = from }
-nestOf User a b n from = record { indexed = true; named = false; id = 0; form = Whole; other = Whole; count = 2 ^ 31; from = from }
+nestOf User a b n from = record { indexed = true; named = false; id = 0; form = Whole false; other = Whole false; count = 2 ^ 31; from = from }
 
 -- an identity's value
 abbrev pub identityNest : ℕ → ℕ → Nest
-identityNest n from = record { indexed = false; named = true; id = n; form = Once; other = Once; count = 1; from = from }
+identityNest n from = record { indexed = false; named = true; id = n; form = Whole true; other = Whole true; count = 1; from = from }
 
 -- the plan for the data, from `at` on, of a value of a class that starts at p
 pub record DataPlan (o l : List ℕ) (c : Class) (once : Bool) (at p : ℕ) (r : Plan) : Type 0 where
@@ -114,10 +113,10 @@ pub record HolderPlan (o : List ℕ) (h : Shape) (at : ℕ) (r : Plan) : Type 0 
 pub record ReferencePlan (o l : List ℕ) (at : ℕ) (r : Plan) : Type 0 where
   pub plan : (once : Bool) (p : ℕ) → DataPlan o l Reference once at p r
 
--- the type of a value at a place: its class, how it is judged, and the place of its data
+-- the type of a value at a place, how it is judged, and the place of its data: further on, or the type is an element type
 abbrev pub HeadIs : List ℕ → Form → ℕ → Head → Type 0
-HeadIs o f at (Typing from c once) =
-    (t : ℤ) × (own : ℕ) × Is c t × (at ≤ from) × (from ≤ length o) × (at < from + leastOf c)
+HeadIs o f at (Typing from t once) =
+    (own : ℕ) × (at ≤ from) × (from ≤ length o) × ((at < from) ⊎ (elementary t ≡ true))
     × ((inner : Inner) (e : Env) → each inner f (stand o at e) ≡ judged inner once t own at (stand o from e))
 HeadIs o f at (Odd r) = (inner : Inner) (e : Env) → each inner f (stand o at e) ≡ stop r
 
@@ -125,7 +124,7 @@ pub record IdentifierAt (o : List ℕ) (once : Bool) (at : ℕ) (r : Head) : Typ
   pub is : HeadIs o (whole once) at r
 
 abbrev pub pastHead : List ℕ → Head → Type 0
-pastHead o (Typing from c once) = from ≤ length o
+pastHead o (Typing from t once) = from ≤ length o
 pastHead o (Odd r) = Unit {0}
 
 pub record HeadAt (o : List ℕ) (w : Stand) (at : ℕ) (r : Head) : Type 0 where

@@ -15,16 +15,16 @@ use decide::Class;
 use decide::Element;
 use decide::Inside;
 use decide::Shape;
+use integer::Read32;
 use integer::Signed;
 use reading::Refusal;
 use scalar::Moment;
 use scalar::Passed;
 
-// How a value inside a container stands: with its identifier; so, but not an identity; or bare, of a class of types.
+// How a value inside a container stands: with its identifier, and whether it must not be an identity; or bare, of a type.
 pub enum Stand {
-    Whole,
-    Once,
-    Bare(Class),
+    Whole(bool),
+    Bare(i32),
 }
 
 // What a container holds: values with indexes or counted ones, an identity's number where it gives one, how its elements stand by turns,
@@ -39,9 +39,9 @@ pub struct Nest {
     pub from: usize,
 }
 
-// The place of a value's data, the class of its type, and whether it must not be an identity; or a refusal.
+// The place of a value's data, its type, and whether it must not be an identity; or a refusal.
 pub enum Head {
-    Typing(usize, Class, bool),
+    Typing(usize, i32, bool),
     Odd(Refusal),
 }
 
@@ -161,12 +161,9 @@ fn end_id(ids: &mut [u32], on: bool, x: u32)
 fn identifier_at(src: &[u8], at: usize, once: bool) -> Head
     ensures { λ r. ⌜ IdentifierAt (now (src .entry)) once at r ⌝ }
 {
-    match integer::signed_at(src, at) {
-        Signed::Positive(from, _) => {
-            Head::Typing(from, decide::holder(false, false, Inside::User), once)
-        }
-        Signed::Negative(from, n) => Head::Typing(from, decide::class_of(n), once),
-        Signed::Faulty(r) => Head::Odd(r),
+    match integer::int32_at(src, at) {
+        Read32::Int32(from, t) => Head::Typing(from, t, once),
+        Read32::Refused32(r) => Head::Odd(r),
     }
 }
 
@@ -176,9 +173,8 @@ fn head_at(src: &[u8], form: Stand, at: usize) -> Head
     ensures { λ r. ⌜ HeadAt (now (src .entry)) form at r ⌝ }
 {
     match form {
-        Stand::Whole => identifier_at(src, at, false),
-        Stand::Once => identifier_at(src, at, true),
-        Stand::Bare(c) => Head::Typing(at, c, false),
+        Stand::Whole(once) => identifier_at(src, at, once),
+        Stand::Bare(t) => Head::Typing(at, t, false),
     }
 }
 
@@ -219,10 +215,10 @@ fn type_at(src: &[u8], on: bool, at: usize) -> Typed
     if on {
         return match decide::element_at(src, at) {
             Element::NoType(r) => Typed::Alien(r),
-            Element::Of(next, c) => Typed::Form(next, Stand::Bare(c)),
+            Element::Of(next, t) => Typed::Form(next, Stand::Bare(t)),
         };
     }
-    Typed::Form(at, Stand::Whole)
+    Typed::Form(at, Stand::Whole(false))
 }
 
 fn nest_of(inside: Inside, form: Stand, other: Stand, n: u32, from: usize) -> Nest
@@ -260,8 +256,8 @@ fn nest_of(inside: Inside, form: Stand, other: Stand, n: u32, from: usize) -> Ne
             indexed: true,
             named: false,
             id: 0,
-            form: Stand::Whole,
-            other: Stand::Whole,
+            form: Stand::Whole(false),
+            other: Stand::Whole(false),
             count: 2147483648,
             from,
         },
@@ -319,8 +315,8 @@ fn identity_plan(src: &[u8], ids: &[u32], once: bool, at: usize, start: usize) -
                 indexed: false,
                 named: true,
                 id: n,
-                form: Stand::Once,
-                other: Stand::Once,
+                form: Stand::Whole(true),
+                other: Stand::Whole(true),
                 count: 1,
                 from: next,
             })
@@ -377,7 +373,7 @@ fn plan_at(src: &[u8], ids: &[u32], form: Stand, at: usize) -> Plan
 {
     match head_at(src, form, at) {
         Head::Odd(r) => Plan::Refuse(r),
-        Head::Typing(from, class, once) => data_plan(src, ids, class, once, from, at),
+        Head::Typing(from, t, once) => data_plan(src, ids, decide::class_of(t), once, from, at),
     }
 }
 
@@ -416,11 +412,17 @@ fn too_deep(src: &[u8], form: Stand, at: usize) -> Refusal
     requires { ⌜ at ≤ length (now src) ⌝ }
     ensures { λ r. ⌜ DeepAt (now (src .entry)) form at r ⌝ }
 {
-    match head_at(src, form, at) {
-        Head::Odd(r) => r,
-        Head::Typing(_, class, once) => Refusal {
+    match form {
+        Stand::Bare(_) => Refusal {
             place: at,
-            number: deep_number(class, once),
+            number: 8,
+        },
+        Stand::Whole(once) => match integer::int32_at(src, at) {
+            Read32::Int32(_, t) => Refusal {
+                place: at,
+                number: deep_number(decide::class_of(t), once),
+            },
+            Read32::Refused32(r) => r,
         },
     }
 }
@@ -496,8 +498,8 @@ pub fn first_value(src: &[u8], at: usize) -> Step
         indexed: false,
         named: false,
         id: 0,
-        form: Stand::Whole,
-        other: Stand::Whole,
+        form: Stand::Whole(false),
+        other: Stand::Whole(false),
         count: 1,
         from: at,
     };

@@ -21,7 +21,7 @@ returns c = type-alien (c .before .before .before .element-at .ensures) (c .befo
 
 -- src/lib.rt:174:9
 returns-2 : tie.Need-returns-2
-returns-2 c = type-shown (c .before .before .before .element-at .ensures) (c .before .before .before .before .if1 .taken) (c .before .next .given .1)
+returns-2 c = type-shown (c .before .before .before .element-at .ensures) (c .before .before .before .before .if1 .taken) (c .before .next .given .1) (c .known-told2 .given .1 .0 .1)
 
 -- src/lib.rt:169:1
 returns-3 : tie.Need-returns-3
