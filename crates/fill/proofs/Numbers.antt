@@ -44,7 +44,6 @@ use Rattle.scalar.specs.Answers.{widthOf, bigAt, Size, codeOut, codePast, Codes
 use Rattle.format.specs.Grammar.{Number as Numbers}
 use Rattle.scalar.specs.declared.Which.{Which}
 use Rattle.decide.specs.declared.Shape.{Shape}
-use Rattle.decide.specs.declared.Inside.the-variants.{User}
 use Rattle.decide.specs.declared.Class.{Class}
 use Rattle.decide.specs.declared.Class.the-variants.{Refused, Small, Int, Fixed, Char, Holder, Identity, Reference, Text as Texted, Parts as Parted}
 use Rattle.decide.specs.Classes.{Is, ClassOf}
@@ -254,12 +253,8 @@ implied-user e = rw e record { same = λ z s h. implied-is (pos 0) h }
 
 -- ---- by the class of a type
 
-pub classed-user : {t : ℤ} {n : ℕ} {c : Class} → t ≡ pos n → c ≡ Holder (record { first = false; second = false; inside = User }) → Classed t c
-unfolding kindOf
-classed-user e q = rw (e, q) record { is = refl }
-
-pub classed-low : {t : ℤ} {n : ℕ} {c : Class} → t ≡ negsuc n → ClassOf n c → Classed t c
-classed-low e k = rw e record { is = k .is }
+pub classed : {t : ℤ} {c : Class} → ClassOf t c → Classed t c
+classed k = record { is = k .is }
 
 pub implied-low : {t : ℤ} {n : ℕ} {z : ℤ} → t ≡ negsuc n → Implied (negsuc n) z → Implied t z
 implied-low {z = z} e k = subst (λ (t : ℤ). Implied t z) (sym e) k

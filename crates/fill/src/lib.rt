@@ -87,16 +87,6 @@ fn typed_at(src: &[u8], form: Form, at: usize) -> Typed
     }
 }
 
-// The class of a type.
-fn class_at(ty: i32) -> Class
-    ensures { λ r. ⌜ Classed ty r ⌝ }
-{
-    if ty < 0 {
-        return decide::class_of((!ty) as u32);
-    }
-    decide::holder(false, false, Inside::User)
-}
-
 // The place past an element type, and the type; the same place and 0 where none stands.
 pub enum Elementary {
     Of(usize, i32),
@@ -466,7 +456,7 @@ fn row_at(src: &[u8], form: Form, label: u32, at: usize) -> Found
     match typed_at(src, form, at) {
         Typed::Untyped => Found::Lost,
         Typed::Standing(from, own, ty) => {
-            let class = class_at(ty);
+            let class = decide::class_of(ty);
             match front_at(src, class, ty, from) {
                 Front::Broken => Found::Lost,
                 Front::Read(f) => {

@@ -2,17 +2,11 @@ use native.Mathlib.Omega.{arith}
 use mir.Syntax.{w32}
 use Rattle.integer.proofs.Signs.{held}
 use Rattle.fill.specs.declared.Holding.the-variants.{Nothing, Values, Amiss}
+use Rattle.fill.proofs.Numbers.{classed}
 use Rattle.fill.proofs.Rows.{typed-past, front-past, row-untyped, row-broken, row-found}
 use borrow.Author.Needs.{needs}
 use Rattle.fill.proofs.row_at.Statement.{statement}
 use Rattle.fill.proofs.row_at.Tie as tie
-use Rattle.fill.proofs.row_at.Reads as reads
-use Rattle.fill.proofs.row_at.Lts as lts
-use Rattle.fill.proofs.class_at.Reads as class-at-reads
-use Rattle.fill.proofs.front_at.Reads as front-at-reads
-use Rattle.fill.proofs.front_row.Reads as front-row-reads
-use Rattle.fill.proofs.holding_at.Reads as holding-at-reads
-use Rattle.fill.proofs.typed_at.Reads as typed-at-reads
 
 -- src/lib.rt:465:11
 typed-at-requires : tie.Need-typed-at-requires
@@ -27,12 +21,12 @@ enum-known-from : tie.Need-enum-known-from
 enum-known-from c = search needs
 
 -- src/lib.rt:468:17
-class-at-requires : tie.Need-class-at-requires
-class-at-requires c κs = search needs
+class-of-requires : tie.Need-class-of-requires
+class-of-requires c κs = search needs
 
 -- src/lib.rt:469:19
 front-at-requires : tie.Need-front-at-requires
-front-at-requires c κs = (typed-past (c .before .before .before .before .typed-at .ensures) (c .before .before .from .given .1) .1, c .class-at .ensures)
+front-at-requires c κs = (typed-past (c .before .before .before .before .typed-at .ensures) (c .before .before .from .given .1) .1, classed (c .class-of .ensures))
 
 -- src/lib.rt:470:34
 enum-told-2 : tie.Need-enum-told-2
@@ -72,15 +66,15 @@ returns-2 c = row-broken (c .before .before .before .before .before .before .bef
 
 -- src/lib.rt:461:1
 returns-3 : tie.Need-returns-3
-returns-3 c = row-found (c .before .before .before .before .before .before .before .before .before .before .before .before .typed-at .ensures) (c .before .before .before .before .before .before .before .before .before .before .from .given .1) (held {w = w32} (record { sfits = c .before .before .before .before .before .before .before .before .before .known-told .given .1 .1 .0 .1 })) (c .before .before .before .before .before .before .before .front-at .ensures) (c .before .before .before .before .before .before .before .before .class-at .ensures) (c .before .before .before .before .before .f .given .1) (c .before .before .holding-at .ensures) (c .before .before .before .front-row .ensures) Amiss (c .enum-told3 .given .1)
+returns-3 c = row-found (c .before .before .before .before .before .before .before .before .before .before .before .before .typed-at .ensures) (c .before .before .before .before .before .before .before .before .before .before .from .given .1) (held {w = w32} (record { sfits = c .before .before .before .before .before .before .before .before .before .known-told .given .1 .1 .0 .1 })) (c .before .before .before .before .before .before .before .front-at .ensures) (classed (c .before .before .before .before .before .before .before .before .class-of .ensures)) (c .before .before .before .before .before .f .given .1) (c .before .before .holding-at .ensures) (c .before .before .before .front-row .ensures) Amiss (c .enum-told3 .given .1)
 
 -- src/lib.rt:461:1
 returns-4 : tie.Need-returns-4
-returns-4 c = row-found (c .before .before .before .before .before .before .before .before .before .before .before .before .typed-at .ensures) (c .before .before .before .before .before .before .before .before .before .before .from .given .1) (held {w = w32} (record { sfits = c .before .before .before .before .before .before .before .before .before .known-told .given .1 .1 .0 .1 })) (c .before .before .before .before .before .before .before .front-at .ensures) (c .before .before .before .before .before .before .before .before .class-at .ensures) (c .before .before .before .before .before .f .given .1) (c .before .before .holding-at .ensures) (c .before .before .before .front-row .ensures) Nothing (c .enum-told4 .given .1)
+returns-4 c = row-found (c .before .before .before .before .before .before .before .before .before .before .before .before .typed-at .ensures) (c .before .before .before .before .before .before .before .before .before .before .from .given .1) (held {w = w32} (record { sfits = c .before .before .before .before .before .before .before .before .before .known-told .given .1 .1 .0 .1 })) (c .before .before .before .before .before .before .before .front-at .ensures) (classed (c .before .before .before .before .before .before .before .before .class-of .ensures)) (c .before .before .before .before .before .f .given .1) (c .before .before .holding-at .ensures) (c .before .before .before .front-row .ensures) Nothing (c .enum-told4 .given .1)
 
 -- src/lib.rt:461:1
 returns-5 : tie.Need-returns-5
-returns-5 c = row-found (c .before .before .before .before .before .before .before .before .before .before .before .before .before .typed-at .ensures) (c .before .before .before .before .before .before .before .before .before .before .before .from .given .1) (held {w = w32} (record { sfits = c .before .before .before .before .before .before .before .before .before .before .known-told .given .1 .1 .0 .1 })) (c .before .before .before .before .before .before .before .before .front-at .ensures) (c .before .before .before .before .before .before .before .before .before .class-at .ensures) (c .before .before .before .before .before .before .f .given .1) (c .before .before .before .holding-at .ensures) (c .before .before .before .before .front-row .ensures) (Values _) (c .before .nest .given .1)
+returns-5 c = row-found (c .before .before .before .before .before .before .before .before .before .before .before .before .before .typed-at .ensures) (c .before .before .before .before .before .before .before .before .before .before .before .from .given .1) (held {w = w32} (record { sfits = c .before .before .before .before .before .before .before .before .before .before .known-told .given .1 .1 .0 .1 })) (c .before .before .before .before .before .before .before .before .front-at .ensures) (classed (c .before .before .before .before .before .before .before .before .before .class-of .ensures)) (c .before .before .before .before .before .before .f .given .1) (c .before .before .before .holding-at .ensures) (c .before .before .before .before .front-row .ensures) (Values _) (c .before .nest .given .1)
 
 pub row-at-spec : {M : Type 1} → statement M
 row-at-spec =
@@ -89,7 +83,7 @@ row-at-spec =
     typed-at-requires
     enum-told
     enum-known-from
-    class-at-requires
+    class-of-requires
     front-at-requires
     enum-told-2
     enum-known-f
