@@ -37,7 +37,7 @@ pub enum Class {
 }
 
 // A container of a shape.
-pub fn holder(first: bool, second: bool, inside: Inside) -> Class
+fn holder(first: bool, second: bool, inside: Inside) -> Class
     ensures { λ r. ⌜ r ≡ Class.Holder (record { first = first; second = second; inside = inside }) ⌝ }
 {
     Class::Holder(Shape {
