@@ -27,16 +27,16 @@ pub enum Stand {
     Bare(i32),
 }
 
-// What a container holds: values with indexes or counted ones, an identity's number where it gives one, how its elements stand by turns,
-// how many they are or below what their indexes, and the place of the first.
+// What a container holds: the place of its first element; how many there are, or below what their indexes; how they stand, by turns; an
+// identity's number; whether the elements have indexes, and whether it gives an identity. As in each plan, the place stands first.
 pub struct Nest {
-    pub indexed: bool,
-    pub named: bool,
-    pub id: u32,
+    pub from: usize,
+    pub count: usize,
     pub form: Stand,
     pub other: Stand,
-    pub count: usize,
-    pub from: usize,
+    pub id: u32,
+    pub indexed: bool,
+    pub named: bool,
 }
 
 // The place of a value's data, its type, and whether it must not be an identity; or a refusal.
@@ -226,40 +226,40 @@ fn nest_of(inside: Inside, form: Stand, other: Stand, n: u32, from: usize) -> Ne
 {
     match inside {
         Inside::List => Nest {
-            indexed: false,
-            named: false,
-            id: 0,
+            from,
+            count: n as usize,
             form,
             other: form,
-            count: n as usize,
-            from,
+            id: 0,
+            indexed: false,
+            named: false,
         },
         Inside::Pairs => Nest {
-            indexed: false,
-            named: false,
-            id: 0,
+            from,
+            count: 2 * n as usize,
             form,
             other,
-            count: 2 * n as usize,
-            from,
+            id: 0,
+            indexed: false,
+            named: false,
         },
         Inside::Sparse => Nest {
-            indexed: true,
-            named: false,
-            id: 0,
+            from,
+            count: n as usize,
             form,
             other: form,
-            count: n as usize,
-            from,
-        },
-        Inside::User => Nest {
+            id: 0,
             indexed: true,
             named: false,
-            id: 0,
+        },
+        Inside::User => Nest {
+            from,
+            count: 2147483648,
             form: Stand::Whole(false),
             other: Stand::Whole(false),
-            count: 2147483648,
-            from,
+            id: 0,
+            indexed: true,
+            named: false,
         },
     }
 }
@@ -312,13 +312,13 @@ fn identity_plan(src: &[u8], ids: &[u32], once: bool, at: usize, start: usize) -
                 });
             }
             Plan::Inner(Nest {
-                indexed: false,
-                named: true,
-                id: n,
+                from: next,
+                count: 1,
                 form: Stand::Whole(true),
                 other: Stand::Whole(true),
-                count: 1,
-                from: next,
+                id: n,
+                indexed: false,
+                named: true,
             })
         }
     }
@@ -495,13 +495,13 @@ pub fn first_value(src: &[u8], at: usize) -> Step
 {
     let mut ids = [0u32; 130];
     let nest = Nest {
-        indexed: false,
-        named: false,
-        id: 0,
+        from: at,
+        count: 1,
         form: Stand::Whole(false),
         other: Stand::Whole(false),
-        count: 1,
-        from: at,
+        id: 0,
+        indexed: false,
+        named: false,
     };
     elements(src, &mut ids, nest, 0, 16)
 }
