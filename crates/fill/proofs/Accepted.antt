@@ -2,23 +2,23 @@
 use mathlib.Core.Path.{_≡_, refl, sym, ap, subst, _∙_}
 use mathlib.Core.Bool.{Bool, true, false, cond}
 use mathlib.Core.List.{List, [], _∷_, _++_}
-use Prim.Native.Nat.{ℕ, zero, suc, _+_, _*_, _^_, _%_, _<_, _≤_}
+use Prim.Native.Nat.{ℕ, zero, suc, _+_, _^_, _%_, _<_, _≤_}
 use native.Mathlib.Omega.{arith}
 use native.Mathlib.Nat.{add-zero}
 use lib.ListN.{length}
 use lib.Dec.{lit≤, eqb}
-use lib.IntN.{ℤ, pos, negsuc}
+use lib.IntN.{ℤ, negsuc}
 use lib.Signed.{mag}
-use Rattle.format.specs.Types.{Holds, nothing, values, couples, indexes, properties, one, parts, Kind, kindOf}
+use Rattle.format.specs.Types.{Holds, nothing, values, couples, indexes, properties, one, parts, kindOf}
 use Rattle.format.specs.Values.{Head, Children, empty, child, Rule, counted, rising, moments, ruleBy, ruleOf, formed, whole, bare, pieces, label, childOf, Value, levels}
 use Rattle.format.specs.Values.{Form as Forms}
-use Rattle.format.specs.Grammar.{Element, Good, Formed, Allows, next, less, Ends, Ints, Moment, Held, Fits, Leveled, Deep, Valid}
+use Rattle.format.specs.Grammar.{Element, Good, Formed, less, Ints, Held, Fits, Leveled, Deep, Valid}
 use Rattle.laws.proofs.Types.{all-sized, sized, amount-fits}
 use Rattle.fill.specs.declared.Form.{Form}
 use Rattle.fill.specs.declared.Form.the-variants.{Whole, Bare}
 use Rattle.fill.specs.declared.Nest.{Nest}
-use Rattle.fill.specs.Fronts.{Stands}
-use Rattle.fill.specs.Rows.{several, formOf, nestWith, nestBy, nestOf, Dated, turn, Opens, Closes}
+use Rattle.fill.specs.Numbers.{Stands}
+use Rattle.fill.specs.Rows.{several, formOf, nestWith, nestBy, nestOf, Dated, turn}
 use Rattle.fill.specs.Filling.{Fillable}
 use Rattle.fill.proofs.Contained.{several-pieces}
 

@@ -2,14 +2,13 @@
 use mathlib.Core.Path.{_≡_, refl, sym, ap, subst, _∙_}
 use mathlib.Core.List.{List, [], _++_, append-assoc}
 use Prim.Native.Nat.{ℕ, _+_}
-use native.Mathlib.Omega.{arith}
 use lib.ListN.{length, drop}
 use lib.Seq.{drop-drop, drop-at}
 use Rattle.reading.specs.declared.Refusal.{Refusal}
 use Rattle.reading.specs.Reading.{Env, State, Out, got, stop, Reader, stand}
 use Rattle.reading.proofs.Sound.{never}
 use Rattle.reading.proofs.Does.{Does}
-use Rattle.fill.specs.Fronts.{Begins}
+use Rattle.fill.specs.Numbers.{Begins}
 
 pub begins-left : {o : List ℕ} {at : ℕ} (u v : List ℕ) → Begins o at (u ++ v) → Begins o at u
 begins-left u v b = record { after = v ++ b .after; begins = b .begins ∙ append-assoc u v (b .after) }
@@ -44,5 +43,5 @@ module _ {A : Type 0} {p : Reader A} {u : List ℕ} {a : A} {e : Env} {o : List 
   unfolding stand
   found h = (same-value (h ∙ read-is), same-place (h ∙ read-is))
 
-  pub lost : {r : Refusal} → stop r ≡ p (stand o at unnamed) → ⊥
-  lost h = never (h ∙ read-is)
+  pub not-refused : {r : Refusal} → stop r ≡ p (stand o at unnamed) → ⊥
+  not-refused h = never (h ∙ read-is)

@@ -1,21 +1,20 @@
 -- Bounds at the calls of the filling cycle.
-use mathlib.Core.Path.{_≡_, sym, subst}
+use mathlib.Core.Path.{_≡_, subst}
 use mathlib.Core.List.{List}
 use Prim.Native.Nat.{ℕ, _+_, _-_, _*_, _^_, _<_, _≤_}
 use native.Mathlib.Omega.{arith}
-use lib.ListN.{length}
 use Rattle.format.specs.declared.Row.{Row}
 use Rattle.format.specs.Writing.{Table}
 use Rattle.fill.specs.declared.Form.{Form}
 use Rattle.fill.specs.declared.Nest.{Nest}
 use Rattle.fill.specs.declared.Found.{Found}
 use Rattle.fill.specs.declared.Found.the-variants.{Leaf, Holder}
-use Rattle.fill.specs.declared.Door.{Door}
-use Rattle.fill.specs.declared.Door.the-variants.{Open, Close}
+use Rattle.fill.specs.declared.Next.{Next}
+use Rattle.fill.specs.declared.Next.the-variants.{End, Value as Following}
 use Rattle.fill.specs.declared.Step.{Step}
 use Rattle.fill.specs.Columns.{Stored}
-use Rattle.fill.specs.Rows.{turn, pastDoor, DoorAt, pastFound, RowAt}
-use Rattle.fill.specs.Filling.{closed, Ready, FilledValue}
+use Rattle.fill.specs.Rows.{pastNext, NextAt, pastFound, RowAt}
+use Rattle.fill.specs.Filling.{Ready, FilledValue}
 use Rattle.fill.proofs.Columns.{roomy}
 use Rattle.fill.proofs.Elements.{Turn}
 
@@ -44,12 +43,12 @@ module _ {o : List ℕ} {lim d : ℕ} {n : Nest} {from base : ℕ} {t₀ : Table
   pub turn-count : i + 1 < 2 ^ 64
   turn-count = omega (arith, tn .steps, tn .room, ready .few)
 
-  module _ {g : Door} (door : DoorAt o (n .indexed) (n .paired) (n .count) i at g) where
-    pub turn-closes : {next : ℕ} → g ≡ Close next → (rows - base < 2 ^ 32) × (next < 2 ^ 32)
-    turn-closes q = let p = subst (pastDoor o (n .indexed) (n .count) i at) q (door .past) in (omega (arith, tn .room, ready .few), omega (arith, p .1, ready .short))
+  module _ {g : Next} (follow : NextAt o (n .indexed) (n .paired) (n .count) i at g) where
+    pub turn-ends : {next : ℕ} → g ≡ End next → (rows - base < 2 ^ 32) × (next < 2 ^ 32)
+    turn-ends q = let p = subst (pastNext o (n .indexed) (n .count) i at) q (follow .past) in (omega (arith, tn .room, ready .few), omega (arith, p .1, ready .short))
 
-    pub turn-ready : {next j : ℕ} → g ≡ Open next j → Ready o lim next rows t
-    turn-ready q = let p = subst (pastDoor o (n .indexed) (n .count) i at) q (door .past) in record { room = roomy (tn .kept) (ready .room); short = ready .short; few = ready .few; inside = p .1; below = tn .room }
+    pub turn-ready : {next j : ℕ} → g ≡ Following next j → Ready o lim next rows t
+    turn-ready q = let p = subst (pastNext o (n .indexed) (n .count) i at) q (follow .past) in record { room = roomy (tn .kept) (ready .room); short = ready .short; few = ready .few; inside = p .1; below = tn .room }
 
 pub turn-more : {o : List ℕ} {lim d : ℕ} {n : Nest} {from base : ℕ} {t₀ : Table} {at i rows : ℕ} {t : Table} → Turn o lim d n from base t₀ at i rows t → base ≤ rows
 turn-more tn = omega (arith, tn .steps)

@@ -1,31 +1,30 @@
 -- The values of a container filled in, turn by turn.
 use mathlib.Core.Path.{_≡_, refl, sym, ap, subst, ap₂, _∙_}
 use mathlib.Core.Bool.{Bool, true, false}
-use mathlib.Core.List.{List, [], _∷_, _++_, append-nil, append-assoc}
-use Prim.Native.Nat.{ℕ, zero, suc, _+_, _-_, _*_, _^_, _<_, _≤_}
+use mathlib.Core.List.{List, _++_, append-nil, append-assoc}
+use Prim.Native.Nat.{ℕ, zero, suc, _+_, _-_, _<_, _≤_}
 use native.Mathlib.Omega.{arith}
 use native.Mathlib.Nat.{add-zero}
 use native.Mathlib.Numerals.{add-one}
 use lib.ListN.{length, length-append}
-use lib.IntN.{ℤ, pos, negsuc}
+use lib.IntN.{pos, negsuc}
 use Rattle.format.specs.declared.Row.{Row}
 use Rattle.format.specs.Values.{Head, Children, empty, child, value, ruleOf}
 use Rattle.format.specs.Spelling.{fore, indexed, index, spellChildren, spell}
-use Rattle.format.specs.Rows.{count, rowOf, rowsFrom}
+use Rattle.format.specs.Rows.{count, rowsFrom}
 use Rattle.format.specs.Writing.{Table}
-use Rattle.fill.specs.declared.Form.{Form}
 use Rattle.fill.specs.declared.Nest.{Nest}
-use Rattle.fill.specs.declared.Door.{Door}
-use Rattle.fill.specs.declared.Door.the-variants.{Open, Close, Jammed}
+use Rattle.fill.specs.declared.Next.{Next}
+use Rattle.fill.specs.declared.Next.the-variants.{End, Value as Following, Unread as NoNext}
 use Rattle.fill.specs.declared.Step.{Step}
-use Rattle.fill.specs.declared.Step.the-variants.{On, Astray}
-use Rattle.fill.specs.Columns.{Roomy, Kept, Stored, putRow, puts}
-use Rattle.fill.specs.Fronts.{Begins}
-use Rattle.fill.specs.Rows.{nestOf, turn, pastDoor, Further, DoorAt}
+use Rattle.fill.specs.declared.Step.the-variants.{On, Unread}
+use Rattle.fill.specs.Columns.{Kept, Stored, putRow, puts}
+use Rattle.fill.specs.Numbers.{Begins}
+use Rattle.fill.specs.Rows.{nestOf, turn, pastNext, Further, NextAt}
 use Rattle.fill.specs.Filling.{Fillable, Within, Fit, closed, Ready, Forth, FilledValue, FilledElements}
 use Rattle.fill.proofs.Begins.{begins-left, begins-right, moved}
 use Rattle.fill.proofs.Columns.{kept-same, kept-trans, puts-append}
-use Rattle.fill.proofs.Values.{rows-count, spell-long}
+use Rattle.fill.proofs.Values.{rows-count}
 
 -- the values still to come, of those (cs) that stand from `from` on: what is left to do comes to the same
 pub record Left (o : List ℕ) (lim d : ℕ) (n : Nest) (from base : ℕ) (t₀ : Table) (cs : Children) (at i rows : ℕ) (t : Table) : Type 0 where
@@ -69,22 +68,22 @@ child-rows : (x : Bool) (at next j : ℕ) (h : Head) (cs more : Children) → ne
 unfolding rowsFrom
 child-rows x at next j h cs more e = rw (e, add-zero, append-nil (rowsFrom (indexed (ruleOf h)) (at + length (index x (pos j)) + length (fore h)) cs))
 
--- the door to values
-abbrev doorOf : Bool → ℕ → Children → Door
-doorOf x at empty = Close (at + length (index x (negsuc 0)))
-doorOf x at (child j h cs more) = Open (at + length (index x (pos j))) j
+-- what comes next of values
+abbrev nextOf : Bool → ℕ → Children → Next
+nextOf x at empty = End (at + length (index x (negsuc 0)))
+nextOf x at (child j h cs more) = Following (at + length (index x (pos j))) j
 
-no-door : {a b j : ℕ} → _≡_ {A = Door} (Close a) (Open b j) → ⊥
-no-door h = let z : _≡_ {A = ℕ} 0 1 = cc in omega arith
+no-value : {a b j : ℕ} → _≡_ {A = Next} (End a) (Following b j) → ⊥
+no-value h = let z : _≡_ {A = ℕ} 0 1 = cc in omega arith
 
-open-next : {a b i j : ℕ} → _≡_ {A = Door} (Open a i) (Open b j) → a ≡ b
-open-next h = cc
+following-place : {a b i j : ℕ} → _≡_ {A = Next} (Following a i) (Following b j) → a ≡ b
+following-place h = cc
 
-open-label : {a b i j : ℕ} → _≡_ {A = Door} (Open a i) (Open b j) → i ≡ j
-open-label h = cc
+following-label : {a b i j : ℕ} → _≡_ {A = Next} (Following a i) (Following b j) → i ≡ j
+following-label h = cc
 
-close-next : {a b : ℕ} → _≡_ {A = Door} (Close a) (Close b) → a ≡ b
-close-next h = cc
+end-place : {a b : ℕ} → _≡_ {A = Next} (End a) (End b) → a ≡ b
+end-place h = cc
 
 on-next : {a b m n : ℕ} → _≡_ {A = Step} (On a m) (On b n) → a ≡ b
 on-next h = cc
@@ -92,41 +91,41 @@ on-next h = cc
 on-rows : {a b m n : ℕ} → _≡_ {A = Step} (On a m) (On b n) → m ≡ n
 on-rows h = cc
 
-jammed : {a : Door} → Jammed ≡ a → (x : Bool) (at : ℕ) (cs : Children) → a ≡ doorOf x at cs → ⊥
-jammed e x at empty q = let z : _≡_ {A = ℕ} 0 1 = cc in omega arith
-jammed e x at (child j h cs more) q = let z : _≡_ {A = ℕ} 0 1 = cc in omega arith
+no-next : {a : Next} → NoNext ≡ a → (x : Bool) (at : ℕ) (cs : Children) → a ≡ nextOf x at cs → ⊥
+no-next e x at empty q = let z : _≡_ {A = ℕ} 0 1 = cc in omega arith
+no-next e x at (child j h cs more) q = let z : _≡_ {A = ℕ} 0 1 = cc in omega arith
 
-no-step : {a m : ℕ} → _≡_ {A = Step} Astray (On a m) → ⊥
+no-step : {a m : ℕ} → _≡_ {A = Step} Unread (On a m) → ⊥
 no-step h = let z : _≡_ {A = ℕ} 0 1 = cc in omega arith
 
 falls : (x : Bool) (count i at next at₂ long : ℕ) → Further x count i at next → at ≤ next → next ≤ long → next ≤ at₂ → at₂ ≤ long → count - (i + 1) + (long - at₂) < count - i + (long - at)
 falls true count i at next at₂ long f a b c d = omega arith
 falls false count i at next at₂ long f a b c d = omega arith
 
-module _ {o : List ℕ} {lim d : ℕ} {n : Nest} {from base : ℕ} {t₀ : Table} {at i rows : ℕ} {t : Table} (tn : Turn o lim d n from base t₀ at i rows t) {g : Door} (door : DoorAt o (n .indexed) (n .paired) (n .count) i at g) where
-  door-is : (d' : ℕ) (cs : Children) → Fillable d' n i cs → Begins o at (spellChildren (n .indexed) cs) → g ≡ doorOf (n .indexed) at cs
+module _ {o : List ℕ} {lim d : ℕ} {n : Nest} {from base : ℕ} {t₀ : Table} {at i rows : ℕ} {t : Table} (tn : Turn o lim d n from base t₀ at i rows t) {g : Next} (follow : NextAt o (n .indexed) (n .paired) (n .count) i at g) where
+  next-is : (d' : ℕ) (cs : Children) → Fillable d' n i cs → Begins o at (spellChildren (n .indexed) cs) → g ≡ nextOf (n .indexed) at cs
   unfolding Fillable spellChildren
-  door-is d empty f b = door .closes f b
-  door-is zero (child j h cs more) f b = absurd f
-  door-is (suc d) (child j h cs more) f b = door .opens j (f .0) (begins-left (index (n .indexed) (pos j)) _ b)
+  next-is d empty f b = follow .ends f b
+  next-is zero (child j h cs more) f b = absurd f
+  next-is (suc d) (child j h cs more) f b = follow .follows j (f .0) (begins-left (index (n .indexed) (pos j)) _ b)
 
-  ends : {next : ℕ} → g ≡ Close next → (cs left : Children) → Fillable d n i left → Begins o at (spellChildren (n .indexed) left) → rows + count left ≡ base + count cs
+  ends : {next : ℕ} → g ≡ End next → (cs left : Children) → Fillable d n i left → Begins o at (spellChildren (n .indexed) left) → rows + count left ≡ base + count cs
       → at + length (spellChildren (n .indexed) left) ≡ from + length (spellChildren (n .indexed) cs) → puts lim t rows (rowsFrom (n .indexed) at left) ≡ puts lim t₀ base (rowsFrom (n .indexed) from cs)
       → (rows ≡ base + count cs) × (next ≡ from + length (spellChildren (n .indexed) cs)) × (t ≡ puts lim t₀ base (rowsFrom (n .indexed) from cs))
   unfolding spellChildren rowsFrom puts count
-  ends q cs empty f b r p e = (sym (add-zero rows) ∙ r, close-next (sym q ∙ door-is d empty f b) ∙ p, e)
-  ends q cs (child j h inner more) f b r p e = absurd (no-door (sym q ∙ door-is d (child j h inner more) f b))
+  ends q cs empty f b r p e = (sym (add-zero rows) ∙ r, end-place (sym q ∙ next-is d empty f b) ∙ p, e)
+  ends q cs (child j h inner more) f b r p e = absurd (no-value (sym q ∙ next-is d (child j h inner more) f b))
 
-  module _ {next j : ℕ} (q : g ≡ Open next j) {r : Step} {t' : Table} (filled : FilledValue o lim (turn (n .form) (n .other) i) j next rows d t r t') where
+  module _ {next j : ℕ} (q : g ≡ Following next j) {r : Step} {t' : Table} (filled : FilledValue o lim (turn (n .form) (n .other) i) j next rows d t r t') where
     value-is : (d' : ℕ) → d ≡ suc d' → (j' : ℕ) (h : Head) (cs more : Children) → Fillable (suc d') n i (child j' h cs more) → Begins o at (spellChildren (n .indexed) (child j' h cs more)) → rows + count (child j' h cs more) ≤ lim
         → (next ≡ at + length (index (n .indexed) (pos j'))) × (j ≡ j') × (r ≡ On (next + length (spell (value h cs))) (rows + suc (count cs))) × (t' ≡ puts lim t rows (rowsFrom false next (child j h cs empty)))
     unfolding Fillable count
     value-is d' e j' h cs more f b l =
-        let w : Open next j ≡ Open (at + length (index (n .indexed) (pos j'))) j' = sym q ∙ door-is (suc d') (child j' h cs more) f b in
+        let w : Following next j ≡ Following (at + length (index (n .indexed) (pos j'))) j' = sym q ∙ next-is (suc d') (child j' h cs more) f b in
         let b' = begins-right (index (n .indexed) (pos j')) (spell (value h cs) ++ spellChildren (n .indexed) more) (subst (Begins o at) (child-spelt (n .indexed) j' h cs more) b) in
         let fit : Fit d (turn (n .form) (n .other) i) h cs = record { stands = f .1; carried = f .2; good = f .3; dated = f .4; within = subst (λ (y : ℕ). Within y (nestOf h cs) cs) (sym e) (f .5) } in
-        let s = filled .same h cs fit (moved (open-next w) (begins-left (spell (value h cs)) (spellChildren (n .indexed) more) b')) (omega arith) in
-        (open-next w, open-label w, s .0, s .1)
+        let s = filled .same h cs fit (moved (following-place w) (begins-left (spell (value h cs)) (spellChildren (n .indexed) more) b')) (omega arith) in
+        (following-place w, following-label w, s .0, s .1)
 
     abbrev Step-on : ℕ → ℕ → Children → Type 0
     Step-on at₂ rows₂ left = (more : Children) × Fillable d n (suc i) more × Begins o at₂ (spellChildren (n .indexed) more) × (rows₂ + count more ≡ rows + count left)
@@ -134,7 +133,7 @@ module _ {o : List ℕ} {lim d : ℕ} {n : Nest} {from base : ℕ} {t₀ : Table
 
     step-on : {at₂ rows₂ : ℕ} → r ≡ On at₂ rows₂ → (d' : ℕ) → d' ≡ d → (left : Children) → Fillable d' n i left → Begins o at (spellChildren (n .indexed) left) → rows + count left ≤ lim → Step-on at₂ rows₂ left
     unfolding Fillable count
-    step-on z d' e empty f b l = absurd (no-door (sym (door-is d' empty f b) ∙ q))
+    step-on z d' e empty f b l = absurd (no-value (sym (next-is d' empty f b) ∙ q))
     step-on z zero e (child j' h cs more) f b l = absurd f
     step-on {at₂} {rows₂} z (suc d') e (child j' h cs more) f b l =
         let v = value-is d' (sym e) j' h cs more f b l in
@@ -151,21 +150,21 @@ module _ {o : List ℕ} {lim d : ℕ} {n : Nest} {from base : ℕ} {t₀ : Table
               ∙ ap (puts lim t rows) (ap₂ (λ (y z : ℕ). rowsFrom false next (child y h cs empty) ++ rowsFrom (n .indexed) z more) (v .1) place ∙ sym (child-rows (n .indexed) at next j' h cs more (v .0))),
         )
 
-    stop-on : r ≡ Astray → (d' : ℕ) → d' ≡ d → (left : Children) → Fillable d' n i left → Begins o at (spellChildren (n .indexed) left) → rows + count left ≤ lim → ⊥
+    stop-on : r ≡ Unread → (d' : ℕ) → d' ≡ d → (left : Children) → Fillable d' n i left → Begins o at (spellChildren (n .indexed) left) → rows + count left ≤ lim → ⊥
     unfolding Fillable
-    stop-on z d' e empty f b l = no-door (sym (door-is d' empty f b) ∙ q)
+    stop-on z d' e empty f b l = no-value (sym (next-is d' empty f b) ∙ q)
     stop-on z zero e (child j' h cs more) f b l = f
     stop-on z (suc d') e (child j' h cs more) f b l = no-step (sym z ∙ value-is d' (sym e) j' h cs more f b l .2)
 
     pub turn-less : {at₂ rows₂ : ℕ} → r ≡ On at₂ rows₂ → n .count - (i + 1) + (length o - at₂) < n .count - i + (length o - at)
     turn-less {at₂} {rows₂} z =
-        let p = subst (pastDoor o (n .indexed) (n .count) i at) q (door .past) in
+        let p = subst (pastNext o (n .indexed) (n .count) i at) q (follow .past) in
         let v = subst (Forth o lim next (suc rows)) z (filled .forth) in
         falls (n .indexed) (n .count) i at next at₂ (length o) (p .2) (p .0) (p .1) (v .0) (v .1)
 
     pub turn-again : {at₂ rows₂ : ℕ} → r ≡ On at₂ rows₂ → Kept t' t → Turn o lim d n from base t₀ at₂ (i + 1) rows₂ t'
     turn-again {at₂} {rows₂} z ks =
-        let p = subst (pastDoor o (n .indexed) (n .count) i at) q (door .past) in
+        let p = subst (pastNext o (n .indexed) (n .count) i at) q (follow .past) in
         let v = subst (Forth o lim next (suc rows)) z (filled .forth) in
         record {
           inside = v .1;
@@ -186,21 +185,21 @@ module _ {o : List ℕ} {lim d : ℕ} {n : Nest} {from base : ℕ} {t₀ : Table
               };
         }
 
-    pub elements-stop : {row : Row} {k : ℕ} → from ≡ row .end → r ≡ Astray → FilledElements o lim row n k base d t₀ Astray t'
+    pub elements-stop : {row : Row} {k : ℕ} → from ≡ row .end → r ≡ Unread → FilledElements o lim row n k base d t₀ Unread t'
     elements-stop e z = record {
       forth = tt;
       same = λ cs f b l. let lf = tn .rest cs f (moved e b) l in absurd (stop-on z d refl (lf .left) (lf .fits) (lf .begun) (omega (arith, lf .rows-same)));
     }
 
-  pub elements-jammed : {row : Row} {k : ℕ} → from ≡ row .end → g ≡ Jammed → FilledElements o lim row n k base d t₀ Astray t
-  elements-jammed e z = record {
+  pub elements-unread : {row : Row} {k : ℕ} → from ≡ row .end → g ≡ NoNext → FilledElements o lim row n k base d t₀ Unread t
+  elements-unread e z = record {
     forth = tt;
-    same = λ cs f b l. let lf = tn .rest cs f (moved e b) l in absurd (jammed (sym z) (n .indexed) at (lf .left) (door-is d (lf .left) (lf .fits) (lf .begun)));
+    same = λ cs f b l. let lf = tn .rest cs f (moved e b) l in absurd (no-next (sym z) (n .indexed) at (lf .left) (next-is d (lf .left) (lf .fits) (lf .begun)));
   }
 
-  pub elements-close : {row : Row} {k next : ℕ} {t' : Table} → from ≡ row .end → g ≡ Close next → Stored lim k (closed row (rows - base) next) t t' → FilledElements o lim row n k base d t₀ (On next rows) t'
-  elements-close {row} {k} {next} {t'} e z st =
-      let p = subst (pastDoor o (n .indexed) (n .count) i at) z (door .past) in
+  pub elements-end : {row : Row} {k next : ℕ} {t' : Table} → from ≡ row .end → g ≡ End next → Stored lim k (closed row (rows - base) next) t t' → FilledElements o lim row n k base d t₀ (On next rows) t'
+  elements-end {row} {k} {next} {t'} e z st =
+      let p = subst (pastNext o (n .indexed) (n .count) i at) z (follow .past) in
       record {
         forth = (omega (arith, tn .past, p .0, e), p .1, omega (arith, tn .steps), tn .room);
         same = λ cs f b l.

@@ -1,8 +1,9 @@
 pub mod Begins
 pub mod Numbers
-pub mod Fronts
+pub mod Fores
 pub mod Contained
-pub mod Doors
+pub mod Classes
+pub mod Following
 pub mod Rows
 pub mod Columns
 pub mod Values

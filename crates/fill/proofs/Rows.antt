@@ -1,34 +1,27 @@
 -- The row of a value of accepted octets.
 use mathlib.Core.Path.{_≡_, refl, sym, ap, subst, _∙_}
-use mathlib.Core.Bool.{Bool, true, false, cond}
+use mathlib.Core.Bool.{true}
 use mathlib.Core.List.{List, _++_}
-use Prim.Native.Nat.{ℕ, _+_, _-_, _^_, _<_, _≤_}
+use Prim.Native.Nat.{ℕ, _+_, _≤_}
 use native.Mathlib.Omega.{arith}
 use lib.ListN.{length, length-append}
 use lib.IntN.{ℤ}
-use lib.Signed.{mag}
-use mir.Syntax.{w32}
-use mir.Val.{toZ, ofZ}
-use Rattle.integer.proofs.Signs.{held}
 use Rattle.format.specs.declared.Row.{Row}
-use Rattle.format.specs.Types.{Kind, kindOf}
+use Rattle.format.specs.Types.{Holds, nothing, values, couples, indexes, properties, one, parts, kindOf}
 use Rattle.format.specs.Values.{Head, Children, Value}
 use Rattle.format.specs.Spelling.{identifier, dataBy, fore, spellChildren}
 use Rattle.format.specs.Grammar.{Good}
-use Rattle.decide.specs.declared.Class.{Class}
 use Rattle.fill.specs.declared.Form.{Form}
 use Rattle.fill.specs.declared.Fore.{Fore}
 use Rattle.fill.specs.declared.Typed.{Typed}
 use Rattle.fill.specs.declared.Typed.the-variants.{Standing, Untyped}
-use Rattle.fill.specs.declared.Front.{Front}
-use Rattle.fill.specs.declared.Front.the-variants.{Read, Broken}
 use Rattle.fill.specs.declared.Nest.{Nest}
-use Rattle.fill.specs.declared.Holding.{Holding}
-use Rattle.fill.specs.declared.Holding.the-variants.{Nothing, Values, Amiss}
+use Rattle.fill.specs.declared.Data.{Data}
+use Rattle.fill.specs.declared.Data.the-variants.{Leaf, Holder, Unread}
 use Rattle.fill.specs.declared.Found.{Found}
-use Rattle.fill.specs.declared.Found.the-variants.{Leaf, Holder, Lost}
-use Rattle.fill.specs.Fronts.{Begins, Stands, Classed, pastTyped, TypedAt, amountOf}
-use Rattle.fill.specs.Rows.{foreOf, pastFront, FrontAt, nestOf, holdingBy, pastHolding, Dated, HoldingAt, frontRow, rowWith, foundBy, pastFound, RowAt}
+use Rattle.fill.specs.declared.Found.the-variants.{Leaf as LeafRow, Holder as HolderRow, Unread as NoRow}
+use Rattle.fill.specs.Numbers.{Begins, Stands, pastTyped, TypedAt}
+use Rattle.fill.specs.Rows.{nestBy, nestOf, Dated, foreOf, dataWith, pastFore, pastData, DataOf, frontRow, rowWith, foundBy, pastFound, RowAt}
 use Rattle.fill.proofs.Begins.{begins-left, begins-right, moved}
 
 standing-from : {a b m n : ℕ} {s t : ℤ} → _≡_ {A = Typed} (Standing a m s) (Standing b n t) → a ≡ b
@@ -43,17 +36,14 @@ standing-type h = cc
 untyped : {b n : ℕ} {t : ℤ} → _≡_ {A = Typed} Untyped (Standing b n t) → ⊥
 untyped h = let z : _≡_ {A = ℕ} 0 1 = cc in omega arith
 
-read-fore : {f g : Fore} → _≡_ {A = Front} (Read f) (Read g) → f ≡ g
-read-fore h = cc
-
-unread : {g : Fore} → _≡_ {A = Front} Broken (Read g) → ⊥
-unread h = let z : _≡_ {A = ℕ} 0 1 = cc in omega arith
-
 pub typed-past : {o : List ℕ} {form : Form} {at : ℕ} {x : Typed} {from own : ℕ} {t : ℤ} → TypedAt o form at x → x ≡ Standing from own t → (at ≤ from) × (from ≤ length o)
 typed-past {o} {at = at} x q = subst (pastTyped o at) q (x .past)
 
-pub front-past : {o : List ℕ} {t : ℤ} {at : ℕ} {x : Front} {f : Fore} → FrontAt o t at x → x ≡ Read f → (at ≤ f .end) × (f .end ≤ length o) × (f .place ≤ length o) × (f .amount < 2 ^ 31)
-front-past {o} {at = at} x q = subst (pastFront o at) q (x .past)
+pub leaf-past : {o : List ℕ} {t : ℤ} {at : ℕ} {x : Data} {f : Fore} → DataOf o t at x → x ≡ Leaf f → pastFore o at f
+leaf-past {o} {at = at} x q = subst (pastData o at) q (x .past)
+
+pub holder-past : {o : List ℕ} {t : ℤ} {at : ℕ} {x : Data} {f : Fore} {n : Nest} → DataOf o t at x → x ≡ Holder f n → pastFore o at f
+holder-past {o} {at = at} x q = subst (pastData o at) q (x .past) .0
 
 fore-is : {o : List ℕ} {at : ℕ} (h : Head) → Begins o at (fore h) → Begins o at (identifier h ++ dataBy (kindOf (h .ty)) h)
 unfolding fore
@@ -66,45 +56,62 @@ fore-long h = length-append (identifier h) (dataBy (kindOf (h .ty)) h)
 type-is : {o : List ℕ} {form : Form} {at : ℕ} {x : Typed} → TypedAt o form at x → (h : Head) → Stands form h → Begins o at (fore h) → x ≡ Standing (at + length (identifier h)) (h .own) (h .ty)
 type-is typed h s b = typed .same h s (begins-left (identifier h) (dataBy (kindOf (h .ty)) h) (fore-is h b))
 
-pub row-untyped : {o : List ℕ} {form : Form} {i at : ℕ} {x : Typed} → TypedAt o form at x → x ≡ Untyped → RowAt o form i at Lost
+pub row-untyped : {o : List ℕ} {form : Form} {i at : ℕ} {x : Typed} → TypedAt o form at x → x ≡ Untyped → RowAt o form i at NoRow
 row-untyped typed q = record { past = tt; same = λ v s k g d b b'. absurd (untyped (sym q ∙ type-is typed (v .top) s b)) }
 
-module _ {o : List ℕ} {form : Form} {at : ℕ} {x : Typed} (typed : TypedAt o form at x) {from own : ℕ} {t t' : ℤ} (q : x ≡ Standing from own t) (e : t' ≡ t) {y : Front} (front : FrontAt o t' from y) where
-  front-is : (h : Head) → Stands form h → kindOf (h .ty) .carried ≡ true → Good (kindOf (h .ty)) h → Begins o at (fore h) → y ≡ Read (foreOf (kindOf (h .ty)) h from)
-  front-is h s k g b =
+-- a row of each, from what stands before the values inside
+abbrev rowed : (Fore → Row) → Data → Found
+rowed m (Leaf f) = LeafRow (m f)
+rowed m (Holder f n) = HolderRow (m f) n
+rowed m Unread = NoRow
+
+rowed-with : (m : Fore → Row) (x : Holds) (f : Fore) (n : Nest) → rowed m (dataWith x f n) ≡ foundBy x (m f) n
+rowed-with m nothing f n = refl
+rowed-with m values f n = refl
+rowed-with m couples f n = refl
+rowed-with m indexes f n = refl
+rowed-with m properties f n = refl
+rowed-with m one f n = refl
+rowed-with m (parts d) f n = refl
+
+nest-is : (h : Head) (cs : Children) → nestOf h cs ≡ nestBy (kindOf (h .ty)) (kindOf (h .ty) .holds) h cs
+unfolding nestOf
+nest-is h cs = refl
+
+module _ {o : List ℕ} {form : Form} {at : ℕ} {x : Typed} (typed : TypedAt o form at x) {from own : ℕ} {t t' : ℤ} (q : x ≡ Standing from own t) (e : t' ≡ t) {y : Data} (reads : DataOf o t' from y) where
+  end-same : (h : Head) → Stands form h → Begins o at (fore h) → from + length (dataBy (kindOf (h .ty)) h) ≡ at + length (fore h)
+  end-same h s b = let l : from ≡ at + length (identifier h) = standing-from (sym q ∙ type-is typed h s b) in omega (arith, fore-long h)
+
+  data-is : (v : Value) → Stands form (v .top) → kindOf (v .top .ty) .carried ≡ true → Good (kindOf (v .top .ty)) (v .top) → Dated (kindOf (v .top .ty) .holds) (v .inside)
+      → Begins o at (fore (v .top)) → Begins o (at + length (fore (v .top))) (spellChildren (nestOf (v .top) (v .inside) .indexed) (v .inside)) → y ≡ dataWith (kindOf (v .top .ty) .holds) (foreOf (kindOf (v .top .ty)) (v .top) from) (nestOf (v .top) (v .inside))
+  data-is v s k g d b b' =
+      let h = v .top in
       let w = sym q ∙ type-is typed h s b in
-      subst (λ (z : ℤ). FrontAt o z from y) (e ∙ standing-type w) front .same k h g (moved (standing-from w) (begins-right (identifier h) (dataBy (kindOf (h .ty)) h) (fore-is h b)))
+      rw (nest-is h (v .inside)) (subst (λ (z : ℤ). DataOf o z from y) (e ∙ standing-type w) reads .same k .same h (v .inside) g d
+      (moved (standing-from w) (begins-right (identifier h) (dataBy (kindOf (h .ty)) h) (fore-is h b)))
+      (moved (end-same h s b) (subst (λ (n : Nest). Begins o (at + length (fore h)) (spellChildren (n .indexed) (v .inside))) (nest-is h (v .inside)) b')))
 
-  pub row-broken : {i : ℕ} → y ≡ Broken → RowAt o form i at Lost
-  row-broken z = record { past = tt; same = λ v s k g d b b'. absurd (unread (sym z ∙ front-is (v .top) s k g b)) }
+  row-same : (i : ℕ) (h : Head) → Stands form h → Begins o at (fore h) → rowWith t' own i (foreOf (kindOf (h .ty)) h from) at ≡ frontRow i h at
+  row-same i h s b = let z = sym q ∙ type-is typed h s b in rw (e ∙ standing-type z, standing-own z, end-same h s b)
 
-  module _ {c : Class} (class : Classed t' c) {f : Fore} (q₂ : y ≡ Read f) {w : Holding} (holding : HoldingAt o c f w) where
-    fore-same : (h : Head) → Stands form h → kindOf (h .ty) .carried ≡ true → Good (kindOf (h .ty)) h → Begins o at (fore h) → f ≡ foreOf (kindOf (h .ty)) h from
-    fore-same h s k g b = read-fore (sym q₂ ∙ front-is h s k g b)
+  row-found : (i : ℕ) (y' : Data) → y ≡ y' → RowAt o form i at (rowed (λ f. rowWith t' own i f at) y')
+  row-found i y' z = record {
+    past = by y' (subst (pastData o from) z (reads .past));
+    same = λ v s k g d b b'.
+        ap (rowed λ f. rowWith t' own i f at) (sym z ∙ data-is v s k g d b b') ∙ rowed-with (λ f. rowWith t' own i f at) (kindOf (v .top .ty) .holds) _ _
+        ∙ ap (λ (r : Row). foundBy (kindOf (v .top .ty) .holds) r (nestOf (v .top) (v .inside))) (row-same i (v .top) s b);
+  }
+    where
+      by : (u : Data) → pastData o from u → pastFound o at (rowed (λ f. rowWith t' own i f at) u)
+      by (Leaf f) p = let a = typed-past typed q in (omega arith, p .1)
+      by (Holder f n) p = let a = typed-past typed q in (omega arith, p .0 .1, p .1)
+      by Unread p = tt
 
-    end-same : (h : Head) → Stands form h → Begins o at (fore h) → from + length (dataBy (kindOf (h .ty)) h) ≡ at + length (fore h)
-    end-same h s b = let l : from ≡ at + length (identifier h) = standing-from (sym q ∙ type-is typed h s b) in omega (arith, fore-long h)
+  pub row-unread : {i : ℕ} → y ≡ Unread → RowAt o form i at NoRow
+  row-unread {i} z = row-found i Unread z
 
-    holding-same : (v : Value) → Stands form (v .top) → kindOf (v .top .ty) .carried ≡ true → Good (kindOf (v .top .ty)) (v .top) → Dated (kindOf (v .top .ty) .holds) (v .inside)
-        → Begins o at (fore (v .top)) → Begins o (at + length (fore (v .top))) (spellChildren (nestOf (v .top) (v .inside) .indexed) (v .inside)) → w ≡ holdingBy (kindOf (v .top .ty) .holds) (nestOf (v .top) (v .inside))
-    holding-same v s k g d b b' =
-        let h = v .top in
-        let a = fore-same h s k g b in
-        holding .same (h .ty) (subst (λ (z : ℤ). Classed z c) (e ∙ standing-type (sym q ∙ type-is typed h s b)) class) k h (v .inside) g refl d
-        (ap (λ (z : Fore). z .first) a) (ap (λ (z : Fore). z .second) a) (ap (λ (z : Fore). z .amount) a) (moved (ap (λ (z : Fore). z .end) a ∙ end-same h s b) b')
+  pub row-leaf : {i : ℕ} {f : Fore} → y ≡ Leaf f → {row : Row} → row ≡ rowWith t' own i f at → RowAt o form i at (LeafRow row)
+  row-leaf {i} {f} z r = rw r (row-found i (Leaf f) z)
 
-    row-same : {i : ℕ} {row : Row} → row ≡ rowWith t' own i f at → (h : Head) → Stands form h → kindOf (h .ty) .carried ≡ true → Good (kindOf (h .ty)) h → Begins o at (fore h) → row ≡ frontRow i h at
-    row-same {i} r h s k g b =
-        let z = sym q ∙ type-is typed h s b in
-        r ∙ ap (λ (u : Fore). rowWith t' own i u at) (fore-same h s k g b) ∙ rw (e ∙ standing-type z, standing-own z, end-same h s b)
-
-    pub row-found : {i : ℕ} {row : Row} → row ≡ rowWith t' own i f at → (w' : Holding) → w ≡ w' → RowAt o form i at (foundBy w' row)
-    row-found {i} {row} r w' z = record {
-      past = by w' (subst pastHolding z (holding .past));
-      same = λ v s k g d b b'. ap (λ (u : Holding). foundBy u row) (sym z ∙ holding-same v s k g d b b') ∙ ap (foundBy (holdingBy (kindOf (v .top .ty) .holds) (nestOf (v .top) (v .inside)))) (row-same r (v .top) s k g b);
-    }
-      where
-        by : (u : Holding) → pastHolding u → pastFound o at (foundBy u row)
-        by Nothing p = let a = typed-past typed q in let b = front-past front q₂ in let l : row .end ≡ f .end = ap (λ (m : Row). m .end) r in (omega arith, omega arith)
-        by (Values n) p = let a = typed-past typed q in let b = front-past front q₂ in let l : row .end ≡ f .end = ap (λ (m : Row). m .end) r in (omega arith, omega arith, p)
-        by Amiss p = tt
+  pub row-holder : {i : ℕ} {f : Fore} {n : Nest} → y ≡ Holder f n → {row : Row} → row ≡ rowWith t' own i f at → RowAt o form i at (HolderRow row n)
+  row-holder {i} {f} {n} z r = rw r (row-found i (Holder f n) z)

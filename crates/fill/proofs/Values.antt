@@ -1,30 +1,29 @@
 -- A value filled in.
 use mathlib.Core.Path.{_≡_, refl, sym, ap, subst, ap₂, _∙_}
-use mathlib.Core.Bool.{Bool, true, false}
+use mathlib.Core.Bool.{Bool, false}
 use mathlib.Core.List.{List, [], _∷_, _++_, append-nil}
-use Prim.Native.Nat.{ℕ, zero, suc, _+_, _-_, _^_, _<_, _≤_}
+use Prim.Native.Nat.{ℕ, zero, suc, _+_, _-_, _<_, _≤_}
 use native.Mathlib.Omega.{arith}
 use native.Mathlib.Nat.{add-zero}
-use native.Mathlib.Numerals.{add-one}
 use lib.ListN.{length, length-append}
-use lib.IntN.{ℤ, pos}
+use lib.IntN.{pos}
 use Rattle.format.specs.declared.Row.{Row}
-use Rattle.format.specs.Types.{Holds, nothing, values, couples, indexes, properties, one, parts, Kind, kindOf}
+use Rattle.format.specs.Types.{Holds, nothing, values, couples, indexes, properties, one, parts, kindOf}
 use Rattle.format.specs.Values.{Head, Children, empty, child, value, ruleBy, ruleOf}
 use Rattle.format.specs.Spelling.{fore, indexed, index, spellChildren, spell}
-use Rattle.format.specs.Rows.{count, rowOf, rowsFrom}
+use Rattle.format.specs.Rows.{count, rowsFrom}
 use Rattle.format.specs.Writing.{Table}
 use Rattle.fill.specs.declared.Form.{Form}
 use Rattle.fill.specs.declared.Form.the-variants.{Whole}
 use Rattle.fill.specs.declared.Nest.{Nest}
 use Rattle.fill.specs.declared.Found.{Found}
-use Rattle.fill.specs.declared.Found.the-variants.{Leaf, Holder, Lost}
+use Rattle.fill.specs.declared.Found.the-variants.{Leaf, Holder, Unread as NoRow}
 use Rattle.fill.specs.declared.Step.{Step}
-use Rattle.fill.specs.declared.Step.the-variants.{On, Astray}
+use Rattle.fill.specs.declared.Step.the-variants.{On, Unread}
 use Rattle.fill.specs.Columns.{Stored, putRow, puts}
-use Rattle.fill.specs.Fronts.{Begins}
-use Rattle.fill.specs.Rows.{nestWith, nestBy, nestOf, holdingBy, foundBy, frontRow, pastFound, RowAt}
-use Rattle.fill.specs.Filling.{Fillable, Within, Fit, closed, Ready, Forth, FilledValue, FilledElements}
+use Rattle.fill.specs.Numbers.{Begins}
+use Rattle.fill.specs.Rows.{nestWith, nestBy, nestOf, foundBy, frontRow, pastFound, RowAt}
+use Rattle.fill.specs.Filling.{Fillable, Within, Fit, closed, Forth, FilledValue, FilledElements}
 use Rattle.fill.proofs.Begins.{begins-left, begins-right, moved}
 
 -- ---- rows and spelling, by what the code keeps of a container
@@ -53,7 +52,7 @@ rows-count x at (child i h cs more) = ap suc (length-append (rowsFrom _ _ cs) (r
 
 -- ---- what was found of a value
 
-leaf-is : (x : Holds) (n : Nest) {r row : Row} → foundBy (holdingBy x n) r ≡ Leaf row → (x ≡ nothing) × (r ≡ row)
+leaf-is : (x : Holds) (n : Nest) {r row : Row} → foundBy x r n ≡ Leaf row → (x ≡ nothing) × (r ≡ row)
 leaf-is nothing n e = (refl, cc)
 leaf-is values n e = let z : _≡_ {A = ℕ} 0 1 = cc in absurd (omega arith)
 leaf-is couples n e = let z : _≡_ {A = ℕ} 0 1 = cc in absurd (omega arith)
@@ -62,7 +61,7 @@ leaf-is properties n e = let z : _≡_ {A = ℕ} 0 1 = cc in absurd (omega arith
 leaf-is one n e = let z : _≡_ {A = ℕ} 0 1 = cc in absurd (omega arith)
 leaf-is (parts d) n e = let z : _≡_ {A = ℕ} 0 1 = cc in absurd (omega arith)
 
-holder-is : (x : Holds) (n : Nest) {m : Nest} {r row : Row} → foundBy (holdingBy x n) r ≡ Holder row m → (r ≡ row) × (n ≡ m)
+holder-is : (x : Holds) (n : Nest) {m : Nest} {r row : Row} → foundBy x r n ≡ Holder row m → (r ≡ row) × (n ≡ m)
 holder-is nothing n e = let z : _≡_ {A = ℕ} 0 1 = cc in absurd (omega arith)
 holder-is values n e = (cc, cc)
 holder-is couples n e = (cc, cc)
@@ -71,14 +70,14 @@ holder-is properties n e = (cc, cc)
 holder-is one n e = (cc, cc)
 holder-is (parts d) n e = (cc, cc)
 
-never-lost : (x : Holds) (n : Nest) (r : Row) → foundBy (holdingBy x n) r ≡ Lost → ⊥
-never-lost nothing n r e = let z : _≡_ {A = ℕ} 0 1 = cc in omega arith
-never-lost values n r e = let z : _≡_ {A = ℕ} 0 1 = cc in omega arith
-never-lost couples n r e = let z : _≡_ {A = ℕ} 0 1 = cc in omega arith
-never-lost indexes n r e = let z : _≡_ {A = ℕ} 0 1 = cc in omega arith
-never-lost properties n r e = let z : _≡_ {A = ℕ} 0 1 = cc in omega arith
-never-lost one n r e = let z : _≡_ {A = ℕ} 0 1 = cc in omega arith
-never-lost (parts d) n r e = let z : _≡_ {A = ℕ} 0 1 = cc in omega arith
+never-unread : (x : Holds) (n : Nest) (r : Row) → foundBy x r n ≡ NoRow → ⊥
+never-unread nothing n r e = let z : _≡_ {A = ℕ} 0 1 = cc in omega arith
+never-unread values n r e = let z : _≡_ {A = ℕ} 0 1 = cc in omega arith
+never-unread couples n r e = let z : _≡_ {A = ℕ} 0 1 = cc in omega arith
+never-unread indexes n r e = let z : _≡_ {A = ℕ} 0 1 = cc in omega arith
+never-unread properties n r e = let z : _≡_ {A = ℕ} 0 1 = cc in omega arith
+never-unread one n r e = let z : _≡_ {A = ℕ} 0 1 = cc in omega arith
+never-unread (parts d) n r e = let z : _≡_ {A = ℕ} 0 1 = cc in omega arith
 
 bare-nest : (d : ℕ) (cs : Children) → Fillable d (nestWith false false Whole Whole 0) 0 cs → cs ≡ empty
 unfolding Fillable
@@ -123,14 +122,14 @@ unfolding puts
 more-put lim k t r rs = refl
 
 module _ {o : List ℕ} {form : Form} {i at : ℕ} {x : Found} (row-at : RowAt o form i at x) where
-  accepted : {d : ℕ} (h : Head) (cs : Children) → Fit d form h cs → Begins o at (spell (value h cs)) → x ≡ foundBy (holdingBy (kindOf (h .ty) .holds) (nestOf h cs)) (frontRow i h at)
+  accepted : {d : ℕ} (h : Head) (cs : Children) → Fit d form h cs → Begins o at (spell (value h cs)) → x ≡ foundBy (kindOf (h .ty) .holds) (frontRow i h at) (nestOf h cs)
   accepted h cs f b =
       let b' = subst (Begins o at) (spell-is h cs) b in
       row-at .same (value h cs) (f .stands) (f .carried) (f .good) (f .dated) (begins-left (fore h) (spellChildren (nestOf h cs .indexed) cs) b') (begins-right (fore h) (spellChildren (nestOf h cs .indexed) cs) b')
 
   module _ {lim k d : ℕ} {t : Table} where
-    pub value-lost : x ≡ Lost → FilledValue o lim form i at k d t Astray t
-    value-lost q = record { forth = tt; same = λ h cs f b r. absurd (never-lost (kindOf (h .ty) .holds) (nestOf h cs) (frontRow i h at) (sym (accepted h cs f b) ∙ q)) }
+    pub value-unread : x ≡ NoRow → FilledValue o lim form i at k d t Unread t
+    value-unread q = record { forth = tt; same = λ h cs f b r. absurd (never-unread (kindOf (h .ty) .holds) (nestOf h cs) (frontRow i h at) (sym (accepted h cs f b) ∙ q)) }
 
     pub value-leaf : {row : Row} {t' : Table} → x ≡ Leaf row → k < lim → Stored lim k row t t' → FilledValue o lim form i at k d t (On (row .end) (k + 1)) t'
     value-leaf {row} {t'} q l st = let p = subst (pastFound o at) q (row-at .past) in record {
@@ -144,7 +143,7 @@ module _ {o : List ℕ} {form : Form} {i at : ℕ} {x : Found} (row-at : RowAt o
         filled : (h : Head) → kindOf (h .ty) .holds ≡ nothing → frontRow i h at ≡ row → (On (row .end) (k + 1) ≡ On (at + length (spell (value h empty))) (k + suc (count empty))) × (t' ≡ puts lim t k (rowsFrom false at (child i h empty empty)))
         filled h e z = (ap₂ On (sym (ap (λ (m : Row). m .end) z) ∙ ap (λ (l : List ℕ). at + length l) (sym (leaf-spelt h e))) (one-more k), st .stored ∙ ap (putRow lim t k) (sym z) ∙ one-put lim k t (frontRow i h at) ∙ ap (puts lim t k) (sym (leaf-rows i at h e)))
 
-    pub value-deep : {row : Row} {n : Nest} → x ≡ Holder row n → d ≡ 0 → FilledValue o lim form i at k d t Astray t
+    pub value-deep : {row : Row} {n : Nest} → x ≡ Holder row n → d ≡ 0 → FilledValue o lim form i at k d t Unread t
     value-deep q e = record { forth = tt; same = λ h cs f b r. absurd (subst (λ (y : ℕ). Within y (nestOf h cs) cs) e (f .within)) }
 
     pub value-holder : {row : Row} {n : Nest} {r : Step} {t' : Table} → x ≡ Holder row n → (d ≡ 0 → ⊥) → FilledElements o lim row n k (k + 1) (d - 1) t r t' → FilledValue o lim form i at k d t r t'
@@ -163,11 +162,11 @@ module _ {o : List ℕ} {form : Form} {i at : ℕ} {x : Found} (row-at : RowAt o
       where
         by : (y : Step) → Forth o lim (row .end) (k + 1) y → Forth o lim at (suc k) y
         by (On next rows) p = let a = subst (pastFound o at) q (row-at .past) in (omega arith, p .1, omega arith, p .3)
-        by Astray p = tt
+        by Unread p = tt
 
         whole : (h : Head) (cs : Children) → frontRow i h at ≡ row → nestOf h cs ≡ n
             → putRow lim (puts lim t (k + 1) (rowsFrom (n .indexed) (row .end) cs)) k (closed row (count cs) (row .end + length (spellChildren (n .indexed) cs))) ≡ puts lim t k (rowsFrom false at (child i h cs empty))
         whole h cs a b = rw (← a, ← b) (more-put lim k t (closed (frontRow i h at) (count cs) (at + length (fore h) + length (spellChildren (nestOf h cs .indexed) cs))) (rowsFrom (nestOf h cs .indexed) (at + length (fore h)) cs) ∙ ap (puts lim t k) (sym (value-rows i at h cs)))
 
-pub value-crowded : {o : List ℕ} {lim : ℕ} {form : Form} {i at k d : ℕ} {t : Table} → lim ≤ k → FilledValue o lim form i at k d t Astray t
+pub value-crowded : {o : List ℕ} {lim : ℕ} {form : Form} {i at k d : ℕ} {t : Table} → lim ≤ k → FilledValue o lim form i at k d t Unread t
 value-crowded l = record { forth = tt; same = λ h cs f b r. absurd (omega arith) }

@@ -2,14 +2,13 @@
 use mathlib.Core.Path.{_≡_, refl, sym, ap, subst, _∙_}
 use mathlib.Core.Bool.{false}
 use mathlib.Core.List.{List, [], append-nil}
-use Prim.Native.Nat.{ℕ, suc, _+_, _^_, _<_, _≤_}
+use Prim.Native.Nat.{ℕ, suc, _^_, _<_}
 use native.Mathlib.Omega.{arith}
 use lib.ListN.{length}
 use borrow.Author.Tests.{le-ltb}
 use Rattle.format.specs.declared.Row.{Row}
 use Rattle.format.specs.Values.{childOf, empty, Value, levels}
 use Rattle.format.specs.Spelling.{spellChildren, spell}
-use Rattle.format.specs.Grammar.{Valid}
 use Rattle.format.specs.Rows.{count, rowsFrom, rows}
 use Rattle.format.specs.Writing.{Table}
 use Rattle.laws.proofs.Rows.{alone-spelt}
@@ -17,7 +16,7 @@ use Rattle.fill.specs.declared.Form.the-variants.{Whole}
 use Rattle.fill.specs.declared.Nest.{Nest}
 use Rattle.fill.specs.declared.Step.{Step}
 use Rattle.fill.specs.Columns.{Roomy, putRow, puts, Filled}
-use Rattle.fill.specs.Fronts.{Begins}
+use Rattle.fill.specs.Numbers.{Begins}
 use Rattle.fill.specs.Rows.{nestWith}
 use Rattle.fill.specs.Filling.{FilledElements, FilledIn}
 use Rattle.fill.proofs.Columns.{puts-filled}

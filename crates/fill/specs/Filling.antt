@@ -1,6 +1,6 @@
 -- What filling comes to: where the octets are the spelling of values that may be filled in, their rows are stored, and nothing else.
 use mathlib.Core.Path.{_≡_}
-use mathlib.Core.Bool.{Bool, true, false}
+use mathlib.Core.Bool.{true, false}
 use mathlib.Core.List.{List}
 use Prim.Native.Nat.{ℕ, zero, suc, _+_, _^_, _<_, _≤_}
 use lib.ListN.{length}
@@ -14,17 +14,17 @@ use Rattle.format.specs.Writing.{Table}
 use Rattle.fill.specs.declared.Form.{Form}
 use Rattle.fill.specs.declared.Nest.{Nest}
 use Rattle.fill.specs.declared.Step.{Step}
-use Rattle.fill.specs.declared.Step.the-variants.{On, Astray}
+use Rattle.fill.specs.declared.Step.the-variants.{On, Unread}
 use Rattle.fill.specs.Columns.{Roomy, putRow, puts, Filled}
-use Rattle.fill.specs.Fronts.{Begins, Stands}
-use Rattle.fill.specs.Rows.{nestOf, Dated, turn, Opens, Closes}
+use Rattle.fill.specs.Numbers.{Begins, Stands}
+use Rattle.fill.specs.Rows.{nestOf, Dated, turn, Follows, Ended}
 
 -- values that a container may hold after i others, and which stand at most d deep
 unfoldable pub Fillable : ℕ → Nest → ℕ → Children → Type 0
-Fillable d n i empty = Closes (n .indexed) (n .count) i
+Fillable d n i empty = Ended (n .indexed) (n .count) i
 Fillable zero n i (child j h cs more) = ⊥
 Fillable (suc d) n i (child j h cs more) =
-    Opens (n .indexed) (n .paired) (n .count) i j × Stands (turn (n .form) (n .other) i) h × (kindOf (h .ty) .carried ≡ true) × Good (kindOf (h .ty)) h
+    Follows (n .indexed) (n .paired) (n .count) i j × Stands (turn (n .form) (n .other) i) h × (kindOf (h .ty) .carried ≡ true) × Good (kindOf (h .ty)) h
     × Dated (kindOf (h .ty) .holds) cs × Fillable d (nestOf h cs) 0 cs × Fillable (suc d) n (suc i) more
 
 abbrev pub Within : ℕ → Nest → Children → Type 0
@@ -53,7 +53,7 @@ pub record Ready (o : List ℕ) (lim at k : ℕ) (t : Table) : Type 0 where
 
 abbrev pub Forth : List ℕ → ℕ → ℕ → ℕ → Step → Type 0
 Forth o lim at k (On next rows) = (at ≤ next) × (next ≤ length o) × (k ≤ rows) × (rows ≤ lim)
-Forth o lim at k Astray = Unit {0}
+Forth o lim at k Unread = Unit {0}
 
 -- a value with label i, from `at` on: its rows stand from k on
 pub record FilledValue (o : List ℕ) (lim : ℕ) (form : Form) (i at k d : ℕ) (t : Table) (r : Step) (t' : Table) : Type 0 where

@@ -1,4 +1,4 @@
 pub mod Columns
-pub mod Fronts
+pub mod Numbers
 pub mod Rows
 pub mod Filling

@@ -2,92 +2,32 @@
 use mathlib.Core.Path.{_≡_}
 use mathlib.Core.Bool.{Bool, true, false, cond}
 use mathlib.Core.List.{List}
-use Prim.Native.Nat.{ℕ, zero, suc, _+_, _-_, _*_, _/_, _%_, _^_, _<_, _≤_}
+use Prim.Native.Nat.{ℕ, suc, _+_, _-_, _*_, _%_, _^_, _<_, _≤_}
 use lib.ListN.{length}
-use lib.Dec.{ltb, eqb}
+use lib.Dec.{eqb}
 use lib.IntN.{ℤ, pos, negsuc}
 use lib.Signed.{mag}
 use Rattle.format.specs.declared.Row.{Row}
-use Rattle.format.specs.Types.{Text, none, octets, characters, Holds, nothing, values, couples, indexes, properties, one, parts, Kind, kindOf}
+use Rattle.format.specs.Types.{Holds, nothing, values, couples, indexes, properties, one, parts, Kind, kindOf}
 use Rattle.format.specs.Values.{Head, Children, empty, child, Value, label}
-use Rattle.format.specs.Spelling.{dataBy, fore, index, spellChildren, spell}
+use Rattle.format.specs.Spelling.{dataBy, fore, index, spellChildren}
 use Rattle.format.specs.Grammar.{Good, Moment}
 use Rattle.format.specs.Rows.{hasContents, rowOf}
-use Rattle.decide.specs.declared.Class.{Class}
-use Rattle.decide.specs.declared.Class.the-variants.{Refused, Small, Int, Fixed, Char, Identity, Reference, Text as Texted, Parts as Parted, Holder as Held}
 use Rattle.decide.specs.declared.Inside.{Inside}
 use Rattle.decide.specs.declared.Inside.the-variants.{Pairs, Sparse, User, List as Several}
 use Rattle.fill.specs.declared.Form.{Form}
 use Rattle.fill.specs.declared.Form.the-variants.{Whole, Bare}
-use Rattle.fill.specs.declared.Fore.{Fore}
-use Rattle.fill.specs.declared.Front.{Front}
-use Rattle.fill.specs.declared.Front.the-variants.{Read, Broken}
+use Rattle.fill.specs.declared.Numbered.{Numbered}
+use Rattle.fill.specs.declared.Numbered.the-variants.{Number, Missing}
 use Rattle.fill.specs.declared.Nest.{Nest}
-use Rattle.fill.specs.declared.Holding.{Holding}
-use Rattle.fill.specs.declared.Holding.the-variants.{Nothing, Values, Amiss}
+use Rattle.fill.specs.declared.Fore.{Fore}
+use Rattle.fill.specs.declared.Data.{Data}
+use Rattle.fill.specs.declared.Data.the-variants.{Leaf, Holder, Unread}
 use Rattle.fill.specs.declared.Found.{Found}
-use Rattle.fill.specs.declared.Found.the-variants.{Leaf, Holder, Lost}
-use Rattle.fill.specs.declared.Door.{Door}
-use Rattle.fill.specs.declared.Door.the-variants.{Open, Close, Jammed}
-use Rattle.fill.specs.Fronts.{Classed, Begins, Stands, amountOf}
-
--- ---- what stands before the values inside
-
--- whether element types, and contents, stand in the data of a class
-abbrev pub firstOf : Class → Bool
-firstOf Refused = false
-firstOf Small = false
-firstOf (Int w) = false
-firstOf (Fixed n) = false
-firstOf Char = false
-firstOf (Parted d) = false
-firstOf (Texted b) = false
-firstOf (Held s) = s .first
-firstOf Identity = false
-firstOf Reference = false
-
-abbrev pub secondOf : Class → Bool
-secondOf Refused = false
-secondOf Small = false
-secondOf (Int w) = false
-secondOf (Fixed n) = false
-secondOf Char = false
-secondOf (Parted d) = false
-secondOf (Texted b) = false
-secondOf (Held s) = s .second
-secondOf Identity = false
-secondOf Reference = false
-
-abbrev pub textual : Class → Bool
-textual Refused = false
-textual Small = false
-textual (Int w) = false
-textual (Fixed n) = false
-textual Char = false
-textual (Parted d) = false
-textual (Texted b) = true
-textual (Held s) = false
-textual Identity = false
-textual Reference = false
-
-abbrev pub foreWith : ℤ → ℤ → ℤ → ℕ → ℕ → ℕ → Fore
-foreWith e f z n p q = record { first = e; second = f; number = z; amount = n; place = p; end = q }
-
--- with n octets of contents, if there are any
-abbrev pub contentsOf : ℕ → Bool → ℤ → ℤ → ℤ → ℕ → ℕ → Front
-contentsOf len on e f z n at = cond on (cond (ltb (len - at) n) Broken (Read (foreWith e f z n at (at + n)))) (Read (foreWith e f z n 0 at))
-
-abbrev pub foreOf : Kind → Head → ℕ → Fore
-foreOf k h at = foreWith (h .first) (h .second) (h .number) (amountOf (k .datum) (h .number))
-    (cond (hasContents (k .text)) (at + length (dataBy k h) - length (h .text)) 0) (at + length (dataBy k h))
-
-abbrev pub pastFront : List ℕ → ℕ → Front → Type 0
-pastFront o at (Read f) = (at ≤ f .end) × (f .end ≤ length o) × (f .place ≤ length o) × (f .amount < 2 ^ 31)
-pastFront o at Broken = Unit {0}
-
-pub record FrontAt (o : List ℕ) (t : ℤ) (at : ℕ) (r : Front) : Type 0 where
-  pub past : pastFront o at r
-  pub same : kindOf t .carried ≡ true → (h : Head) → Good (kindOf t) h → Begins o at (dataBy (kindOf t) h) → r ≡ Read (foreOf (kindOf t) h at)
+use Rattle.fill.specs.declared.Found.the-variants.{Leaf as LeafRow, Holder as HolderRow, Unread as NoRow}
+use Rattle.fill.specs.declared.Next.{Next}
+use Rattle.fill.specs.declared.Next.the-variants.{End, Value as Following, Unread as NoNext}
+use Rattle.fill.specs.Numbers.{Begins, Stands}
 
 -- ---- what a value holds
 
@@ -115,20 +55,6 @@ nestBy k (parts d) h cs = nestWith false false (Bare (negsuc 1)) (Bare (negsuc 1
 unfoldable pub nestOf : Head → Children → Nest
 nestOf h cs = nestBy (kindOf (h .ty)) (kindOf (h .ty) .holds) h cs
 
-abbrev pub holdingBy : Holds → Nest → Holding
-holdingBy nothing n = Nothing
-holdingBy values n = Values n
-holdingBy couples n = Values n
-holdingBy indexes n = Values n
-holdingBy properties n = Values n
-holdingBy one n = Values n
-holdingBy (parts d) n = Values n
-
-abbrev pub pastHolding : Holding → Type 0
-pastHolding Nothing = Unit {0}
-pastHolding (Values n) = n .count < 2 ^ 32
-pastHolding Amiss = Unit {0}
-
 -- the integers of a date or time are known by their rule alone
 abbrev pub Dated : Holds → Children → Type 0
 Dated nothing cs = Unit {0}
@@ -146,11 +72,46 @@ nestIn Pairs a b e f n = nestWith false true (formOf a e) (formOf b f) (2 * n)
 nestIn Sparse a b e f n = nestWith true false (formOf a e) (formOf a e) 0
 nestIn User a b e f n = nestWith true false Whole Whole 0
 
-pub record HoldingAt (o : List ℕ) (c : Class) (f : Fore) (r : Holding) : Type 0 where
-  pub past : pastHolding r
-  pub same : (t : ℤ) → Classed t c → kindOf t .carried ≡ true → (h : Head) (cs : Children) → Good (kindOf t) h → h .ty ≡ t → Dated (kindOf t .holds) cs
-      → f .first ≡ h .first → f .second ≡ h .second → f .amount ≡ amountOf (kindOf t .datum) (h .number) → Begins o (f .end) (spellChildren (nestOf h cs .indexed) cs)
-      → r ≡ holdingBy (kindOf t .holds) (nestOf h cs)
+-- ---- the data of a value
+
+abbrev pub foreWith : ℤ → ℤ → ℤ → ℕ → ℕ → Fore
+foreWith e f z p q = record { first = e; second = f; number = z; place = p; end = q }
+
+abbrev pub foreOf : Kind → Head → ℕ → Fore
+foreOf k h at = foreWith (h .first) (h .second) (h .number) (cond (hasContents (k .text)) (at + length (dataBy k h) - length (h .text)) 0) (at + length (dataBy k h))
+
+-- a number alone
+abbrev pub leafOf : Numbered → Data
+leafOf (Number next z) = Leaf (foreWith (pos 0) (pos 0) z 0 next)
+leafOf Missing = Unread
+
+abbrev pub dataWith : Holds → Fore → Nest → Data
+dataWith nothing f n = Leaf f
+dataWith values f n = Holder f n
+dataWith couples f n = Holder f n
+dataWith indexes f n = Holder f n
+dataWith properties f n = Holder f n
+dataWith one f n = Holder f n
+dataWith (parts d) f n = Holder f n
+
+abbrev pub pastFore : List ℕ → ℕ → Fore → Type 0
+pastFore o at f = (at ≤ f .end) × (f .end ≤ length o) × (f .place ≤ length o)
+
+abbrev pub pastData : List ℕ → ℕ → Data → Type 0
+pastData o at (Leaf f) = pastFore o at f
+pastData o at (Holder f n) = pastFore o at f × (n .count < 2 ^ 32)
+pastData o at Unread = Unit {0}
+
+-- the data of a value of a kind
+pub record DataAt (o : List ℕ) (k : Kind) (at : ℕ) (r : Data) : Type 0 where
+  pub past : pastData o at r
+  pub same : (h : Head) (cs : Children) → Good k h → Dated (k .holds) cs → Begins o at (dataBy k h) → Begins o (at + length (dataBy k h)) (spellChildren (nestBy k (k .holds) h cs .indexed) cs)
+      → r ≡ dataWith (k .holds) (foreOf k h at) (nestBy k (k .holds) h cs)
+
+-- the data of a value of a type that is carried
+pub record DataOf (o : List ℕ) (t : ℤ) (at : ℕ) (r : Data) : Type 0 where
+  pub past : pastData o at r
+  pub same : kindOf t .carried ≡ true → DataAt o (kindOf t) at r
 
 -- ---- a value's row, up to the values inside: without their rows, and ending where they begin
 
@@ -160,21 +121,25 @@ frontRow i h at = rowOf i h 0 at (at + length (fore h))
 abbrev pub rowWith : ℤ → ℕ → ℕ → Fore → ℕ → Row
 rowWith t own i f at = record { ty = t; own = own; label = i; number = f .number; first = f .first; second = f .second; place = f .place; below = 0; start = at; end = f .end }
 
-abbrev pub foundBy : Holding → Row → Found
-foundBy Nothing r = Leaf r
-foundBy (Values n) r = Holder r n
-foundBy Amiss r = Lost
+abbrev pub foundBy : Holds → Row → Nest → Found
+foundBy nothing r n = LeafRow r
+foundBy values r n = HolderRow r n
+foundBy couples r n = HolderRow r n
+foundBy indexes r n = HolderRow r n
+foundBy properties r n = HolderRow r n
+foundBy one r n = HolderRow r n
+foundBy (parts d) r n = HolderRow r n
 
 abbrev pub pastFound : List ℕ → ℕ → Found → Type 0
-pastFound o at (Leaf r) = (at ≤ r .end) × (r .end ≤ length o)
-pastFound o at (Holder r n) = (at ≤ r .end) × (r .end ≤ length o) × (n .count < 2 ^ 32)
-pastFound o at Lost = Unit {0}
+pastFound o at (LeafRow r) = (at ≤ r .end) × (r .end ≤ length o)
+pastFound o at (HolderRow r n) = (at ≤ r .end) × (r .end ≤ length o) × (n .count < 2 ^ 32)
+pastFound o at NoRow = Unit {0}
 
 pub record RowAt (o : List ℕ) (form : Form) (i at : ℕ) (r : Found) : Type 0 where
   pub past : pastFound o at r
   pub same : (v : Value) → Stands form (v .top) → kindOf (v .top .ty) .carried ≡ true → Good (kindOf (v .top .ty)) (v .top) → Dated (kindOf (v .top .ty) .holds) (v .inside)
       → Begins o at (fore (v .top)) → Begins o (at + length (fore (v .top))) (spellChildren (nestOf (v .top) (v .inside) .indexed) (v .inside))
-      → r ≡ foundBy (holdingBy (kindOf (v .top .ty) .holds) (nestOf (v .top) (v .inside))) (frontRow i (v .top) at)
+      → r ≡ foundBy (kindOf (v .top .ty) .holds) (frontRow i (v .top) at) (nestOf (v .top) (v .inside))
 
 -- ---- the next value of a container
 
@@ -183,24 +148,24 @@ abbrev pub turn : Form → Form → ℕ → Form
 turn f g i = cond (eqb (i % 2) 0) f g
 
 -- after i values, a value with label j may follow; or none
-abbrev pub Opens : Bool → Bool → ℕ → ℕ → ℕ → Type 0
-Opens true paired count i j = j < 2 ^ 31
-Opens false paired count i j = (i < count) × (j ≡ label paired i)
+abbrev pub Follows : Bool → Bool → ℕ → ℕ → ℕ → Type 0
+Follows true paired count i j = j < 2 ^ 31
+Follows false paired count i j = (i < count) × (j ≡ label paired i)
 
-abbrev pub Closes : Bool → ℕ → ℕ → Type 0
-Closes true count i = Unit {0}
-Closes false count i = i ≡ count
+abbrev pub Ended : Bool → ℕ → ℕ → Type 0
+Ended true count i = Unit {0}
+Ended false count i = i ≡ count
 
 abbrev pub Further : Bool → ℕ → ℕ → ℕ → ℕ → Type 0
 Further true count i at next = at < next
 Further false count i at next = i < count
 
-abbrev pub pastDoor : List ℕ → Bool → ℕ → ℕ → ℕ → Door → Type 0
-pastDoor o x count i at (Open next j) = (at ≤ next) × (next ≤ length o) × Further x count i at next
-pastDoor o x count i at (Close next) = (at ≤ next) × (next ≤ length o)
-pastDoor o x count i at Jammed = Unit {0}
+abbrev pub pastNext : List ℕ → Bool → ℕ → ℕ → ℕ → Next → Type 0
+pastNext o x count i at (Following next j) = (at ≤ next) × (next ≤ length o) × Further x count i at next
+pastNext o x count i at (End next) = (at ≤ next) × (next ≤ length o)
+pastNext o x count i at NoNext = Unit {0}
 
-pub record DoorAt (o : List ℕ) (x paired : Bool) (count i at : ℕ) (r : Door) : Type 0 where
-  pub past : pastDoor o x count i at r
-  pub opens : (j : ℕ) → Opens x paired count i j → Begins o at (index x (pos j)) → r ≡ Open (at + length (index x (pos j))) j
-  pub closes : Closes x count i → Begins o at (index x (negsuc 0)) → r ≡ Close (at + length (index x (negsuc 0)))
+pub record NextAt (o : List ℕ) (x paired : Bool) (count i at : ℕ) (r : Next) : Type 0 where
+  pub past : pastNext o x count i at r
+  pub follows : (j : ℕ) → Follows x paired count i j → Begins o at (index x (pos j)) → r ≡ Following (at + length (index x (pos j))) j
+  pub ends : Ended x count i → Begins o at (index x (negsuc 0)) → r ≡ End (at + length (index x (negsuc 0)))

@@ -1,26 +1,30 @@
 ghost use mathlib.Core.Path.{_≡_};
-ghost use Prim.Native.Nat.{_+_, _^_, _≤_, _<_};
+ghost use mathlib.Core.Bool.{Bool, true, false};
+ghost use Prim.Native.Nat.{ℕ, _+_, _^_, _≤_, _<_};
 ghost use lib.ListN.{length};
-ghost use lib.IntN.{negsuc};
-ghost use Rattle.format.specs.Types.{packed, fixed, code, amount};
-ghost use Rattle.scalar.specs.Answers.{Size, widthOf};
-ghost use Rattle.fill.specs.Columns.{columns, Roomy, Stored};
-ghost use Rattle.fill.specs.Fronts.{TypedAt, Classed, ElementaryAt, NumberAt, NumberOf, Implied};
-ghost use Rattle.fill.specs.Rows.{firstOf, secondOf, textual, contentsOf, FrontAt, formOf, nestWith, nestIn, HoldingAt, rowWith, RowAt, DoorAt, turn};
-ghost use Rattle.fill.specs.Filling.{closed, Ready, FilledValue, FilledElements, FilledIn};
+ghost use lib.IntN.{pos};
+ghost use Rattle.format.specs.Types.{packed, fixed, code, amount, one, silent, gives, string, dated, container};
 ghost use Rattle.format.specs.Values.{label};
-ghost use mathlib.Core.Bool.{true, false};
+ghost use Rattle.scalar.specs.declared.Bits.{Bits};
+ghost use Rattle.scalar.specs.Answers.{Size, widthOf};
+ghost use Rattle.scalar.specs.Moments.{partsOf};
+ghost use Rattle.decide.specs.Classes.{holdsOf, textOf};
+ghost use Rattle.fill.specs.Columns.{columns, Roomy, Stored};
+ghost use Rattle.fill.specs.Numbers.{TypedAt, ElementaryAt, NumberAt, Implied};
+ghost use Rattle.fill.specs.Rows.{formOf, nestWith, nestIn, foreWith, leafOf, DataAt, DataOf, rowWith, RowAt, NextAt, turn};
+ghost use Rattle.fill.specs.Filling.{closed, Ready, FilledValue, FilledElements, FilledIn};
 use decide::Amount;
 use decide::Class;
+use decide::Element;
 use decide::Inside;
 use decide::Shape;
 use format::Row;
 use integer::Read32;
 use integer::Read64;
 use integer::Signed;
-use scalar::Bits;
 use scalar::Coded;
 use scalar::Moment;
+use scalar::Which;
 
 // Stores a row in the columns, if its place is below the limit. No other function stores in them.
 fn put_row(
@@ -59,7 +63,7 @@ fn put_row(
     }
 }
 
-// ---- What stands before the values inside a value ----
+// ---- The type and the number of a value ----
 
 // How a value inside a container stands: with its identifier, or bare, of a type.
 pub enum Form {
@@ -87,38 +91,29 @@ fn typed_at(src: &[u8], form: Form, at: usize) -> Typed
     }
 }
 
-// The place past an element type, and the type; the same place and 0 where none stands.
-pub enum Elementary {
-    Of(usize, i32),
-    Unknown,
-}
-
-// The element type at a place, if one stands there.
-fn element_at(src: &[u8], on: bool, at: usize) -> Elementary
+// The element type at a place, if one stands there; else the same place and 0.
+fn element_at(src: &[u8], on: bool, at: usize) -> Element
     requires { ⌜ at ≤ length (now src) ⌝ }
     ensures { λ r. ⌜ ElementaryAt (now (src .entry)) on at r ⌝ }
 {
     if on {
-        return match integer::int32_at(src, at) {
-            Read32::Int32(next, t) => Elementary::Of(next, t),
-            Read32::Refused32(_) => Elementary::Unknown,
-        };
+        return decide::element_at(src, at);
     }
-    Elementary::Of(at, 0)
+    Element::Of(at, 0)
 }
 
-// The place past a value's number, the number, and once more if it is a length, size, version, identity or reference number.
+// The place past a value's number, and the number.
 pub enum Numbered {
-    Number(usize, i64, u32),
+    Number(usize, i64),
     Missing,
 }
 
 // An integer, of any width.
-fn int_number(src: &[u8], at: usize, w: Bits) -> Numbered
-    ensures { λ r. ⌜ NumberAt (now (src .entry)) (packed (widthOf w)) at r ⌝ }
+fn int_number(src: &[u8], at: usize) -> Numbered
+    ensures { λ r. ⌜ ((w : Bits) → NumberAt (now (src .entry)) (packed (widthOf w)) at r) ⌝ }
 {
     match integer::int64_at(src, at) {
-        Read64::Int64(next, z) => Numbered::Number(next, z, 0),
+        Read64::Int64(next, z) => Numbered::Number(next, z),
         Read64::Refused64(_) => Numbered::Missing,
     }
 }
@@ -131,7 +126,7 @@ fn fixed_number(src: &[u8], at: usize, n: usize) -> Numbered
     if src.len() - at < n {
         return Numbered::Missing;
     }
-    Numbered::Number(at + n, scalar::bits_at(src, at, n), 0)
+    Numbered::Number(at + n, scalar::bits_at(src, at, n))
 }
 
 // A character's code.
@@ -139,7 +134,7 @@ fn code_number(src: &[u8], at: usize) -> Numbered
     ensures { λ r. ⌜ NumberAt (now (src .entry)) code at r ⌝ }
 {
     match scalar::code_at(src, at) {
-        Coded::Code(next, n) => Numbered::Number(next, n as i64, 0),
+        Coded::Code(next, n) => Numbered::Number(next, n as i64),
         Coded::Lost => Numbered::Missing,
     }
 }
@@ -149,180 +144,22 @@ fn amount_number(src: &[u8], at: usize) -> Numbered
     ensures { λ r. ⌜ NumberAt (now (src .entry)) amount at r ⌝ }
 {
     match decide::amount_at(src, at) {
-        Amount::Number(next, n) => Numbered::Number(next, n as i64, n),
+        Amount::Number(next, n) => Numbered::Number(next, n as i64),
         Amount::NoNumber(_) => Numbered::Missing,
     }
 }
 
-// The number of a type that has its value in itself.
+// The number of a type that has its value in itself: of -41 and below the integer that it says, 1 of true, 0 of the others.
 fn implied_number(ty: i32) -> i64
     ensures { λ r. ⌜ Implied ty r ⌝ }
 {
-    if ty < 0 {
-        return small_number((!ty) as u32);
+    if ty < -40 {
+        return -42 - (ty as i64);
+    }
+    if ty == -34 {
+        return 1;
     }
     0
-}
-
-// The same, of the type -1 - n.
-fn small_number(n: u32) -> i64
-    ensures { λ r. ⌜ Implied (negsuc n) r ⌝ }
-{
-    if n < 40 {
-        if n == 33 {
-            return 1;
-        }
-        return 0;
-    }
-    if n == 40 {
-        return -1;
-    }
-    (n - 41) as i64
-}
-
-// The number of a value of a class.
-fn number_at(src: &[u8], class: Class, ty: i32, at: usize) -> Numbered
-    requires { ⌜ (at ≤ length (now src)) × Classed ty class ⌝ }
-    ensures { λ r. ⌜ NumberOf (now (src .entry)) ty at r ⌝ }
-{
-    match class {
-        Class::Refused => Numbered::Missing,
-        Class::Small => Numbered::Number(at, implied_number(ty), 0),
-        Class::Int(w) => int_number(src, at, w),
-        Class::Fixed(n) => fixed_number(src, at, n),
-        Class::Char => code_number(src, at),
-        Class::Parts(_) => Numbered::Number(at, 0, 0),
-        Class::Text(_) => amount_number(src, at),
-        Class::Holder(_) => amount_number(src, at),
-        Class::Identity => amount_number(src, at),
-        Class::Reference => amount_number(src, at),
-    }
-}
-
-// What stands before the values inside a value: element types; the number, and once more if it is an amount; the place of string
-// contents, 0 where none are; and the place past all of it.
-pub struct Fore {
-    pub first: i32,
-    pub second: i32,
-    pub number: i64,
-    pub amount: u32,
-    pub place: usize,
-    pub end: usize,
-}
-
-pub enum Front {
-    Read(Fore),
-    Broken,
-}
-
-// Whether an element type stands first in the data of a class.
-fn has_first(class: Class) -> bool
-    ensures { λ r. ⌜ r ≡ firstOf class ⌝ }
-{
-    match class {
-        Class::Refused => false,
-        Class::Small => false,
-        Class::Int(_) => false,
-        Class::Fixed(_) => false,
-        Class::Char => false,
-        Class::Parts(_) => false,
-        Class::Text(_) => false,
-        Class::Holder(shape) => shape.first,
-        Class::Identity => false,
-        Class::Reference => false,
-    }
-}
-
-// And then a second one.
-fn has_second(class: Class) -> bool
-    ensures { λ r. ⌜ r ≡ secondOf class ⌝ }
-{
-    match class {
-        Class::Refused => false,
-        Class::Small => false,
-        Class::Int(_) => false,
-        Class::Fixed(_) => false,
-        Class::Char => false,
-        Class::Parts(_) => false,
-        Class::Text(_) => false,
-        Class::Holder(shape) => shape.second,
-        Class::Identity => false,
-        Class::Reference => false,
-    }
-}
-
-// Whether contents follow the number.
-fn has_text(class: Class) -> bool
-    ensures { λ r. ⌜ r ≡ textual class ⌝ }
-{
-    match class {
-        Class::Refused => false,
-        Class::Small => false,
-        Class::Int(_) => false,
-        Class::Fixed(_) => false,
-        Class::Char => false,
-        Class::Parts(_) => false,
-        Class::Text(_) => true,
-        Class::Holder(_) => false,
-        Class::Identity => false,
-        Class::Reference => false,
-    }
-}
-
-// The contents, if there are any, after element types and a number.
-fn contents_at(
-    src: &[u8],
-    on: bool,
-    first: i32,
-    second: i32,
-    number: i64,
-    amount: u32,
-    at: usize,
-) -> Front
-    requires { ⌜ at ≤ length (now src) ⌝ }
-    ensures { λ r. ⌜ r ≡ contentsOf (length (now (src .entry))) on first second number amount at ⌝ }
-{
-    if on {
-        let n = amount as usize;
-        if src.len() - at < n {
-            return Front::Broken;
-        }
-        return Front::Read(Fore {
-            first,
-            second,
-            number,
-            amount,
-            place: at,
-            end: at + n,
-        });
-    }
-    Front::Read(Fore {
-        first,
-        second,
-        number,
-        amount,
-        place: 0,
-        end: at,
-    })
-}
-
-// What stands in the data of a type before the values inside.
-fn front_at(src: &[u8], class: Class, ty: i32, at: usize) -> Front
-    requires { ⌜ (at ≤ length (now src)) × Classed ty class ⌝ }
-    ensures { λ r. ⌜ FrontAt (now (src .entry)) ty at r ⌝ }
-{
-    match element_at(src, has_first(class), at) {
-        Elementary::Unknown => Front::Broken,
-        Elementary::Of(at2, first) => match element_at(src, has_second(class), at2) {
-            Elementary::Unknown => Front::Broken,
-            Elementary::Of(at3, second) => match number_at(src, class, ty, at3) {
-                Numbered::Missing => Front::Broken,
-                Numbered::Number(next, number, amount) => {
-                    contents_at(src, has_text(class), first, second, number, amount, next)
-                }
-            },
-        },
-    }
 }
 
 // ---- The values inside a value ----
@@ -334,12 +171,6 @@ pub struct Nest {
     pub form: Form,
     pub other: Form,
     pub count: usize,
-}
-
-pub enum Holding {
-    Nothing,
-    Values(Nest),
-    Amiss,
 }
 
 fn form_of(on: bool, ty: i32) -> Form
@@ -397,25 +228,136 @@ fn nest_of(shape: Shape, first: i32, second: i32, n: u32) -> Nest
     }
 }
 
-// What a value of a class holds.
-fn holding_at(src: &[u8], class: Class, f: Fore) -> Holding
-    requires { ⌜ f .amount < 2 ^ 31 ⌝ }
-    ensures { λ r. ⌜ HoldingAt (now (src .entry)) class f r ⌝ }
+// ---- The data of a value ----
+
+// What stands in the data before the values inside: element types, 0 where none; the number; the place of string contents, 0 where none are; and
+// the place past all of it.
+pub struct Fore {
+    pub first: i32,
+    pub second: i32,
+    pub number: i64,
+    pub place: usize,
+    pub end: usize,
+}
+
+// What is read of a value's data: what stands before the values inside; and what it holds, if any.
+pub enum Data {
+    Leaf(Fore),
+    Holder(Fore, Nest),
+    Unread,
+}
+
+// A number alone.
+fn plain(number: i64, end: usize) -> Fore
+    ensures { λ r. ⌜ r ≡ foreWith (pos 0) (pos 0) number 0 end ⌝ }
 {
-    match class {
-        Class::Refused => Holding::Nothing,
-        Class::Small => Holding::Nothing,
-        Class::Int(_) => Holding::Nothing,
-        Class::Fixed(_) => Holding::Nothing,
-        Class::Char => Holding::Nothing,
-        Class::Parts(which) => match scalar::moment_past(src, f.end, which) {
-            Moment::Parts(_, n) => Holding::Values(counted(Form::Bare(-2), n)),
-            Moment::Unfit(_) => Holding::Amiss,
+    Fore {
+        first: 0,
+        second: 0,
+        number,
+        place: 0,
+        end,
+    }
+}
+
+fn number_data(n: Numbered) -> Data
+    ensures { λ r. ⌜ r ≡ leafOf n ⌝ }
+{
+    match n {
+        Numbered::Missing => Data::Unread,
+        Numbered::Number(next, number) => Data::Leaf(plain(number, next)),
+    }
+}
+
+// A string: a length, and contents.
+fn text_data(src: &[u8], at: usize) -> Data
+    requires { ⌜ at ≤ length (now src) ⌝ }
+    ensures { λ r. ⌜ ((chars : Bool) → DataAt (now (src .entry)) (string (textOf chars)) at r) ⌝ }
+{
+    match decide::amount_at(src, at) {
+        Amount::NoNumber(_) => Data::Unread,
+        Amount::Number(next, n) => {
+            if src.len() - next < n as usize {
+                return Data::Unread;
+            }
+            Data::Leaf(Fore {
+                first: 0,
+                second: 0,
+                number: n as i64,
+                place: next,
+                end: next + n as usize,
+            })
+        }
+    }
+}
+
+// A date or time: a date has three integers; those of the others are read, to count them.
+fn moment_data(src: &[u8], at: usize, which: Which) -> Data
+    requires { ⌜ at ≤ length (now src) ⌝ }
+    ensures { λ r. ⌜ DataAt (now (src .entry)) (dated (partsOf which)) at r ⌝ }
+{
+    match which {
+        Which::Date => Data::Holder(plain(0, at), counted(Form::Bare(-2), 3)),
+        _ => match scalar::moment_past(src, at, which) {
+            Moment::Unfit(_) => Data::Unread,
+            Moment::Parts(_, n) => Data::Holder(plain(0, at), counted(Form::Bare(-2), n)),
         },
-        Class::Text(_) => Holding::Nothing,
-        Class::Holder(shape) => Holding::Values(nest_of(shape, f.first, f.second, f.amount)),
-        Class::Identity => Holding::Values(counted(Form::Whole, 1)),
-        Class::Reference => Holding::Nothing,
+    }
+}
+
+// An identity: its number, and one value.
+fn identity_data(src: &[u8], at: usize) -> Data
+    requires { ⌜ at ≤ length (now src) ⌝ }
+    ensures { λ r. ⌜ DataAt (now (src .entry)) (container false false one gives) at r ⌝ }
+{
+    match decide::amount_at(src, at) {
+        Amount::NoNumber(_) => Data::Unread,
+        Amount::Number(next, n) => Data::Holder(plain(n as i64, next), counted(Form::Whole, 1)),
+    }
+}
+
+// A container: its element types, its number, and what it holds.
+fn holder_data(src: &[u8], shape: Shape, at: usize) -> Data
+    requires { ⌜ at ≤ length (now src) ⌝ }
+    ensures { λ r. ⌜ DataAt (now (src .entry)) (container (shape .first) (shape .second) (holdsOf (shape .inside)) silent) at r ⌝ }
+{
+    match element_at(src, shape.first, at) {
+        Element::NoType(_) => Data::Unread,
+        Element::Of(at2, first) => match element_at(src, shape.second, at2) {
+            Element::NoType(_) => Data::Unread,
+            Element::Of(at3, second) => match decide::amount_at(src, at3) {
+                Amount::NoNumber(_) => Data::Unread,
+                Amount::Number(next, n) => Data::Holder(
+                    Fore {
+                        first,
+                        second,
+                        number: n as i64,
+                        place: 0,
+                        end: next,
+                    },
+                    nest_of(shape, first, second, n),
+                ),
+            },
+        },
+    }
+}
+
+// The data of a value of a type.
+fn data_at(src: &[u8], ty: i32, at: usize) -> Data
+    requires { ⌜ at ≤ length (now src) ⌝ }
+    ensures { λ r. ⌜ DataOf (now (src .entry)) ty at r ⌝ }
+{
+    match decide::class_of(ty) {
+        Class::Refused => Data::Unread,
+        Class::Small => Data::Leaf(plain(implied_number(ty), at)),
+        Class::Int(_) => number_data(int_number(src, at)),
+        Class::Fixed(n) => number_data(fixed_number(src, at, n)),
+        Class::Char => number_data(code_number(src, at)),
+        Class::Parts(which) => moment_data(src, at, which),
+        Class::Text(_) => text_data(src, at),
+        Class::Holder(shape) => holder_data(src, shape, at),
+        Class::Identity => identity_data(src, at),
+        Class::Reference => number_data(amount_number(src, at)),
     }
 }
 
@@ -425,7 +367,7 @@ fn holding_at(src: &[u8], class: Class, f: Fore) -> Holding
 pub enum Found {
     Leaf(Row),
     Holder(Row, Nest),
-    Lost,
+    Unread,
 }
 
 fn front_row(ty: i32, own: u8, label: u32, f: Fore, at: usize) -> Row
@@ -454,40 +396,31 @@ fn row_at(src: &[u8], form: Form, label: u32, at: usize) -> Found
     ensures { λ r. ⌜ RowAt (now (src .entry)) form label at r ⌝ }
 {
     match typed_at(src, form, at) {
-        Typed::Untyped => Found::Lost,
-        Typed::Standing(from, own, ty) => {
-            let class = decide::class_of(ty);
-            match front_at(src, class, ty, from) {
-                Front::Broken => Found::Lost,
-                Front::Read(f) => {
-                    let row = front_row(ty, own, label, f, at);
-                    match holding_at(src, class, f) {
-                        Holding::Amiss => Found::Lost,
-                        Holding::Nothing => Found::Leaf(row),
-                        Holding::Values(nest) => Found::Holder(row, nest),
-                    }
-                }
-            }
-        }
+        Typed::Untyped => Found::Unread,
+        Typed::Standing(from, own, ty) => match data_at(src, ty, from) {
+            Data::Unread => Found::Unread,
+            Data::Leaf(f) => Found::Leaf(front_row(ty, own, label, f, at)),
+            Data::Holder(f, nest) => Found::Holder(front_row(ty, own, label, f, at), nest),
+        },
     }
 }
 
 // ---- The next value of a container ----
 
 // A value at a place, with its label; or the end, and the place past it.
-pub enum Door {
-    Open(usize, u32),
-    Close(usize),
-    Jammed,
+pub enum Next {
+    Value(usize, u32),
+    End(usize),
+    Unread,
 }
 
-fn index_door(src: &[u8], count: usize, paired: bool, i: usize, at: usize) -> Door
-    ensures { λ r. ⌜ DoorAt (now (src .entry)) true paired count i at r ⌝ }
+fn index_next(src: &[u8], at: usize) -> Next
+    ensures { λ r. ⌜ ((paired : Bool) (count i : ℕ) → NextAt (now (src .entry)) true paired count i at r) ⌝ }
 {
     match integer::signed_at(src, at) {
-        Signed::Faulty(_) => Door::Jammed,
-        Signed::Negative(next, _) => Door::Close(next),
-        Signed::Positive(next, j) => Door::Open(next, j),
+        Signed::Faulty(_) => Next::Unread,
+        Signed::Negative(next, _) => Next::End(next),
+        Signed::Positive(next, j) => Next::Value(next, j),
     }
 }
 
@@ -501,18 +434,18 @@ fn label_of(paired: bool, i: usize) -> u32
     i as u32
 }
 
-// The door to the value after i others.
-fn door_at(src: &[u8], indexed: bool, paired: bool, count: usize, i: usize, at: usize) -> Door
+// What follows i values.
+fn next_at(src: &[u8], indexed: bool, paired: bool, count: usize, i: usize, at: usize) -> Next
     requires { ⌜ (at ≤ length (now src)) × (count < 2 ^ 32) ⌝ }
-    ensures { λ r. ⌜ DoorAt (now (src .entry)) indexed paired count i at r ⌝ }
+    ensures { λ r. ⌜ NextAt (now (src .entry)) indexed paired count i at r ⌝ }
 {
     if indexed {
-        return index_door(src, count, paired, i, at);
+        return index_next(src, at);
     }
     if count <= i {
-        return Door::Close(at);
+        return Next::End(at);
     }
-    Door::Open(at, label_of(paired, i))
+    Next::Value(at, label_of(paired, i))
 }
 
 // The form of the value after i others.
@@ -546,10 +479,10 @@ fn closed_row(row: Row, below: usize, end: usize) -> Row
     }
 }
 
-// How far filling came: the place and the row past what was filled in. Of accepted octets it never goes astray.
+// How far filling came: the place and the row past what was filled in. Of accepted octets none are left unread.
 pub enum Step {
     On(usize, usize),
-    Astray,
+    Unread,
 }
 
 // Fills in the rows of the value at a place, from row k on.
@@ -576,10 +509,10 @@ fn fill_value(
     ensures { λ r. ⌜ FilledValue (now (src .entry)) lim form name at k depth (columns (now (ty .entry)) (now (own .entry)) (now (label .entry)) (now (number .entry)) (now (first .entry)) (now (second .entry)) (now (place .entry)) (now (below .entry)) (now (start .entry)) (now (end .entry))) r (columns (now (ty .exit)) (now (own .exit)) (now (label .exit)) (now (number .exit)) (now (first .exit)) (now (second .exit)) (now (place .exit)) (now (below .exit)) (now (start .exit)) (now (end .exit))) ⌝ }
 {
     if lim <= k {
-        return Step::Astray;
+        return Step::Unread;
     }
     match row_at(src, form, name, at) {
-        Found::Lost => Step::Astray,
+        Found::Unread => Step::Unread,
         Found::Leaf(row) => {
             let past = row.end;
             put_row(
@@ -601,7 +534,7 @@ fn fill_value(
         }
         Found::Holder(row, nest) => {
             if depth == 0 {
-                return Step::Astray;
+                return Step::Unread;
             }
             fill_elements(
                 src,
@@ -659,9 +592,9 @@ fn fill_elements(
     let mut i: usize = 0;
     let mut rows = base;
     loop {
-        match door_at(src, indexed, paired, count, i, at) {
-            Door::Jammed => return Step::Astray,
-            Door::Close(next) => {
+        match next_at(src, indexed, paired, count, i, at) {
+            Next::Unread => return Step::Unread,
+            Next::End(next) => {
                 put_row(
                     ty,
                     own,
@@ -679,7 +612,7 @@ fn fill_elements(
                 );
                 return Step::On(next, rows);
             }
-            Door::Open(next, name) => match fill_value(
+            Next::Value(next, name) => match fill_value(
                 src,
                 ty,
                 own,
@@ -698,7 +631,7 @@ fn fill_elements(
                 rows,
                 depth,
             ) {
-                Step::Astray => return Step::Astray,
+                Step::Unread => return Step::Unread,
                 Step::On(at2, rows2) => {
                     at = at2;
                     rows = rows2;

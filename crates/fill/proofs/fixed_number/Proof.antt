@@ -1,4 +1,4 @@
-use Rattle.fill.proofs.Numbers.{fixed-found, fixed-lost}
+use Rattle.fill.proofs.Numbers.{fixed-found, fixed-missing}
 use borrow.Author.Needs.{needs}
 use Rattle.fill.proofs.fixed_number.Statement.{statement}
 use Rattle.fill.proofs.fixed_number.Tie as tie
@@ -6,23 +6,23 @@ use Rattle.fill.proofs.fixed_number.Reads as reads
 use Rattle.fill.proofs.fixed_number.Lts as lts
 use Rattle.scalar.proofs.bits_at.Reads as bits-at-reads
 
--- src/lib.rt:134:8
+-- src/lib.rt:126:8
 sub-if1 : tie.Need-sub-if1
 sub-if1 c = search needs
 
--- src/lib.rt:135:9
+-- src/lib.rt:127:9
 returns : tie.Need-returns
-returns c = fixed-lost (c .before .before .pre .0) (c .before .before .pre .1) (c .if1 .taken)
+returns c = fixed-missing (c .before .before .pre .0) (c .before .before .pre .1) (c .if1 .taken)
 
--- src/lib.rt:137:22
+-- src/lib.rt:129:22
 add-t4 : tie.Need-add-t4
 add-t4 c = search needs
 
--- src/lib.rt:137:30
+-- src/lib.rt:129:30
 bits-at-requires : tie.Need-bits-at-requires
 bits-at-requires c κs = search needs
 
--- src/lib.rt:130:1
+-- src/lib.rt:122:1
 returns-2 : tie.Need-returns-2
 returns-2 c = fixed-found (c .before .before .before .pre .0) (c .before .before .before .pre .1) (c .before .if1 .left) (c .bits-at .ensures) (c .bits-at .ok)
 

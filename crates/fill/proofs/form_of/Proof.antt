@@ -6,11 +6,11 @@ use Rattle.fill.proofs.form_of.Tie as tie
 use Rattle.fill.proofs.form_of.Reads as reads
 use Rattle.fill.proofs.form_of.Lts as lts
 
--- src/lib.rt:354:9
+-- src/lib.rt:180:9
 returns : tie.Need-returns
 returns c = rw (c .if1 .taken, held {w = w32} (c .before .fits .ty))
 
--- src/lib.rt:350:1
+-- src/lib.rt:176:1
 returns-2 : tie.Need-returns-2
 returns-2 c = search needs
 

@@ -1,31 +1,38 @@
-use Rattle.fill.proofs.Numbers.{implied-low, implied-user}
-use mathlib.Core.Path.{ap, sym, subst, _∙_}
+use mathlib.Core.Path.{sym, ap, _∙_}
+use mathlib.Core.Bool.{true, false}
+use lib.IntN.{ℤ, negsuc}
+use mir.Val.{SFits, toZ, ofZ}
+use Rattle.integer.proofs.Signs.{held, seen, widened}
 use mir.Syntax.{w32, w64}
-use lib.IntN.{natAbs, negsuc}
-use Rattle.integer.proofs.Signs.{held, down-read, cast-read, is-negative, is-positive}
-use borrow.Author.Needs.{needs}
+use native.Mathlib.Omega.{arith}
+use Rattle.fill.proofs.Numbers.{implied-low, implied-true, implied-high, implied-fits}
 use Rattle.fill.proofs.implied_number.Statement.{statement}
 use Rattle.fill.proofs.implied_number.Tie as tie
 use Rattle.fill.proofs.implied_number.Reads as reads
 use Rattle.fill.proofs.implied_number.Lts as lts
-use Rattle.fill.proofs.small_number.Reads as small-number-reads
 
--- src/lib.rt:165:29
-cast-small-number : tie.Need-cast-small-number
-cast-small-number c = let s = c .before in cast-read w32 (s .args .ty) (s .fits .ty) _ (down-read w32 (s .args .ty) (s .fits .ty) (c .if1 .taken))
+wide : {v : ℤ} → SFits w32 v → SFits w64 v
+wide = widened (omega arith)
 
--- src/lib.rt:165:9
-small-number-requires : tie.Need-small-number-requires
-small-number-requires c κs = search needs
+-- src/lib.rt:157:23
+cast-result : tie.Need-cast-result
+cast-result c = rw (held (c .before .fits .ty)) (wide (c .before .fits .ty))
 
--- src/lib.rt:165:9
+-- src/lib.rt:157:16
+sub-result : tie.Need-sub-result
+sub-result c = simp (held (c .before .fits .ty), held (wide (c .before .fits .ty))) (implied-fits (c .before .args .ty) (c .before .fits .ty))
+
+-- src/lib.rt:157:9
 returns : tie.Need-returns
-returns c = let s = c .before .before in rw (held {w = w64} {z = c .small-number .result} (record { sfits = c .small-number .ok })) (implied-low (is-negative w32 (s .args .ty) (s .fits .ty) (c .before .if1 .taken) ∙ ap negsuc (sym (ap natAbs (down-read w32 (s .args .ty) (s .fits .ty) (c .before .if1 .taken))))) (c .small-number .ensures))
+returns c = simp (held (c .before .fits .ty), held (wide (c .before .fits .ty)), held (implied-fits (c .before .args .ty) (c .before .fits .ty))) (implied-high (c .before .args .ty) (seen (c .before .fits .ty) (negsuc 39) true (c .if1 .taken)))
 
--- src/lib.rt:161:1
+-- src/lib.rt:160:9
 returns-2 : tie.Need-returns-2
-returns-2 c = let s = c .before in implied-user (is-positive w32 (s .args .ty) (s .fits .ty) (c .if1 .left))
+returns-2 c = implied-true (sym (held (c .before .before .fits .ty)) ∙ ap (toZ w32) (c .if2 .taken))
+
+-- src/lib.rt:153:1
+returns-3 : tie.Need-returns-3
+returns-3 c = implied-low (c .before .before .args .ty) (seen (c .before .before .fits .ty) (negsuc 39) false (c .before .if1 .left)) (λ q. c .if2 .left (ap (ofZ w32) q))
 
 pub implied-number-spec : {M : Type 1} → statement M
-implied-number-spec =
-    tie.close (tie.spec cast-small-number small-number-requires returns returns-2)
+implied-number-spec = tie.close (tie.spec cast-result sub-result returns returns-2 returns-3)

@@ -1,4 +1,4 @@
-use Rattle.fill.proofs.Numbers.{int-found, int-lost}
+use Rattle.fill.proofs.Numbers.{int-found, int-missing}
 use borrow.Author.Needs.{needs}
 use Rattle.fill.proofs.int_number.Statement.{statement}
 use Rattle.fill.proofs.int_number.Tie as tie
@@ -6,25 +6,25 @@ use Rattle.fill.proofs.int_number.Reads as reads
 use Rattle.fill.proofs.int_number.Lts as lts
 use Rattle.integer.proofs.int64_at.Reads as int64-at-reads
 
--- src/lib.rt:123:11
+-- src/lib.rt:115:11
 int64-at-requires : tie.Need-int64-at-requires
 int64-at-requires c κs = search needs
 
--- src/lib.rt:124:23
+-- src/lib.rt:116:23
 enum-known-next : tie.Need-enum-known-next
 enum-known-next c = search needs
 
--- src/lib.rt:125:33
+-- src/lib.rt:117:33
 enum-told : tie.Need-enum-told
 enum-told c = search needs
 
--- src/lib.rt:120:1
+-- src/lib.rt:112:1
 returns : tie.Need-returns
-returns c = int-found (c .before .before .before .int64-at .ensures) (c .before .before .before .before .before .args .w) (c .before .next .given .1) (c .known-told .given .1 .0 .1)
+returns c = int-found (c .before .before .before .int64-at .ensures) (c .before .next .given .1) (c .known-told .given .1 .0 .1)
 
--- src/lib.rt:120:1
+-- src/lib.rt:112:1
 returns-2 : tie.Need-returns-2
-returns-2 c = int-lost (c .before .before .int64-at .ensures) (c .before .before .before .before .args .w) (c .enum-told .given .1)
+returns-2 c = int-missing (c .before .before .int64-at .ensures) (c .enum-told .given .1)
 
 pub int-number-spec : {M : Type 1} → statement M
 int-number-spec =

@@ -4,11 +4,11 @@ use Rattle.fill.proofs.turn_of.Tie as tie
 use Rattle.fill.proofs.turn_of.Reads as reads
 use Rattle.fill.proofs.turn_of.Lts as lts
 
--- src/lib.rt:530:9
+-- src/lib.rt:456:9
 returns : tie.Need-returns
 returns c = rw (eq-eqb _ _ (c .if1 .taken))
 
--- src/lib.rt:526:1
+-- src/lib.rt:452:1
 returns-2 : tie.Need-returns-2
 returns-2 c = rw (ne-eqb _ _ (c .if1 .left))
 
