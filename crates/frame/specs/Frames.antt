@@ -9,8 +9,11 @@ use lib.Signed.{nonNeg}
 use Rattle.reading.specs.Reading.{State, Out, got, stop, Reader, stand, _>>=_, _>>_, return, require}
 use Rattle.integer.specs.Packed.{wide32, integer}
 use Rattle.format.specs.Rows.{rows}
-use Rattle.format.specs.Message.{Answer, ok, refused, then, answer, Frame, isUser, wholeMessage, wholeFrame, frame}
+use Rattle.format.specs.Message.{Answer, ok, refused, then, answer, Frame, isUser, wholeMessage, wholeFrame, frame, readFrame}
+use Rattle.format.specs.Writing.{Table}
+use Rattle.format.specs.declared.Row.{Row}
 use Rattle.measure.specs.Entries.{none}
+use Rattle.message.specs.Messages.{shortest, Holds}
 use Rattle.frame.specs.declared.FramePlace.{FramePlace}
 use Rattle.frame.specs.declared.Opened.{Opened}
 use Rattle.frame.specs.declared.Opened.the-variants.{Message, Unframed}
@@ -63,3 +66,16 @@ pub record MessageIn (o : List ℕ) (from : FramePlace) (c : ℤ) (r : Framed) :
 -- checking a frame: its conversation number, the place of its message, and how many rows that has
 unfoldable pub needs : List ℕ → Answer (ℤ × ℕ × ℕ)
 needs o = then (frame o) needed
+
+-- ---- reading a frame into ten lent columns
+
+-- of what a reading gives: the count of rows instead of them, and the rows alone
+abbrev pub told : ℤ × ℕ × List Row → Answer (ℤ × ℕ × ℕ)
+told a = ok (a .0, a .1, length (a .2))
+
+abbrev pub rowsOf : ℤ × ℕ × List Row → Answer (List Row)
+rowsOf a = ok (a .2)
+
+pub record FrameRead (o : List ℕ) (t : Table) (r : Framed) (t' : Table) : Type 0 where
+  pub says : answerOf r ≡ then (readFrame (shortest t) o) told
+  pub holds : Holds (then (readFrame (shortest t) o) rowsOf) t t'

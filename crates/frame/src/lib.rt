@@ -1,7 +1,8 @@
 ghost use mathlib.Core.Path.{_≡_};
 ghost use Prim.Native.Nat.{_+_, _^_, _<_, _≤_};
 ghost use lib.ListN.{length};
-ghost use Rattle.frame.specs.Frames.{OpenedBy, Conversation, UserAt, MessageIn, answerOf, needs};
+ghost use Rattle.fill.specs.Columns.{columns};
+ghost use Rattle.frame.specs.Frames.{OpenedBy, Conversation, UserAt, MessageIn, answerOf, needs, FrameRead};
 use integer::Read32;
 use integer::Signed;
 use measure::Step;
@@ -120,5 +121,50 @@ pub fn check_frame(src: &[u8]) -> Framed
     match open_frame(src) {
         Opened::Unframed(r) => Framed::Refused(r),
         Opened::Message(from, c) => message_in(src, from, c),
+    }
+}
+
+// Reading a frame into ten lent columns: the place of its message, how many rows that has, which stand first in each column, and the conversation number;
+// or a refusal, at a frame place, and the columns are as they were. The rows' places are message places.
+pub fn read_frame(
+    src: &[u8],
+    ty: &mut [i32],
+    own: &mut [u8],
+    label: &mut [u32],
+    number: &mut [i64],
+    first: &mut [i32],
+    second: &mut [i32],
+    place: &mut [u32],
+    below: &mut [u32],
+    start: &mut [u32],
+    end: &mut [u32],
+) -> Framed
+    ensures { λ r. ⌜ FrameRead (now (src .entry)) (columns (now (ty .entry)) (now (own .entry)) (now (label .entry)) (now (number .entry)) (now (first .entry)) (now (second .entry)) (now (place .entry)) (now (below .entry)) (now (start .entry)) (now (end .entry))) r (columns (now (ty .exit)) (now (own .exit)) (now (label .exit)) (now (number .exit)) (now (first .exit)) (now (second .exit)) (now (place .exit)) (now (below .exit)) (now (start .exit)) (now (end .exit))) ⌝ }
+{
+    match check_frame(src) {
+        Framed::Refused(r) => Framed::Refused(r),
+        Framed::Rows(from, n, c) => {
+            let at = from.0;
+            if message::store_rows(
+                &src[at..],
+                ty,
+                own,
+                label,
+                number,
+                first,
+                second,
+                place,
+                below,
+                start,
+                end,
+                n,
+            ) {
+                return Framed::Rows(from, n, c);
+            }
+            Framed::Refused(Refusal {
+                place: 0,
+                number: 12,
+            })
+        }
     }
 }

@@ -2,7 +2,7 @@
 use mathlib.Core.Path.{_≡_, refl, sym, ap, subst, _∙_}
 use mathlib.Core.Bool.{Bool, true, false, cond}
 use mathlib.Core.List.{List}
-use Prim.Native.Nat.{ℕ, _+_, _*_, _^_, _<_, _≤_}
+use Prim.Native.Nat.{ℕ, _^_, _<_, _≤_}
 use native.Mathlib.Omega.{arith}
 use lib.ListN.{length}
 use lib.Dec.{leb}
@@ -21,7 +21,7 @@ use Rattle.laws.proofs.Theorems.{accepted-exactly, rows-count}
 use Rattle.measure.specs.declared.Measured.{Measured}
 use Rattle.measure.specs.declared.Measured.the-variants.{Amount, Refused}
 use Rattle.measure.specs.Entries.{answerOf, rowsNeeded}
-use Rattle.fill.specs.Columns.{Roomy, Filled}
+use Rattle.fill.specs.Columns.{Roomy}
 use Rattle.fill.specs.Filling.{Ready, FilledIn}
 use Rattle.message.specs.Messages.{least, leastOf, shortest, Holds, counted, MessageRead, RowsStored}
 
@@ -81,10 +81,10 @@ stored {o} {n} {m} {t} e h f = record { stored = λ v g s k. (within-by (shortes
 
 -- ---- reading
 
-same-refused : {A : Type 0} {q r : Refusal} → _≡_ {A = Answer A} (refused q) (refused r) → q ≡ r
+pub same-refused : {A : Type 0} {q r : Refusal} → _≡_ {A = Answer A} (refused q) (refused r) → q ≡ r
 same-refused e = cc
 
-same-ok : {A : Type 0} {a b : A} → _≡_ {A = Answer A} (ok a) (ok b) → a ≡ b
+pub same-ok : {A : Type 0} {a b : A} → _≡_ {A = Answer A} (ok a) (ok b) → a ≡ b
 same-ok e = cc
 
 -- a message that is accepted
