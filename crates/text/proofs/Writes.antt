@@ -28,6 +28,16 @@ wrote-front {v} {l} {n} w h =
     let all : n ≡ length v = omega (arith, w .past) in
     rw (all, w .holds, sets-eq v l 0 (omega arith)) (take-append-seam v (drop (0 + length v) l))
 
+-- one text after another
+pub wrote-append : {u v l some after : List ℕ} {at mid end : ℕ} → Wrote u at l mid some → Wrote v mid some end after → Wrote (u ++ v) at l end after
+wrote-append {u} {v} {l} {some} {after} {at} {mid} x y = record {
+  past = omega (arith, x .past, y .past, length-append u v);
+  holds = y .holds ∙ ap (λ (l : List ℕ). sets l mid v) (x .holds) ∙ ap (λ (i : ℕ). sets (sets l at u) i v) (x .past) ∙ sym (sets-append u v l at);
+}
+
+pub wrote-kept : {v l after : List ℕ} {at end : ℕ} → Wrote v at l end after → length after ≡ length l
+wrote-kept {v} {l} {at = at} w = ap length (w .holds) ∙ length-sets l at v
+
 -- v is to be written from `at` on into l. Of it `left` is left, from `next` on, where the slice holds `out`.
 pub record Left (v : List ℕ) (at : ℕ) (l left : List ℕ) (next : ℕ) (out : List ℕ) : Type 0 where
   pub rest : {end : ℕ} {after : List ℕ} → Wrote left next out end after → Wrote v at l end after

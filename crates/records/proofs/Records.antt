@@ -1,0 +1,97 @@
+-- The rows of ten columns.
+use mathlib.Core.Path.{_≡_, refl, sym, ap, subst, _∙_}
+use mathlib.Core.List.{List, [], _∷_, _++_, map}
+use Prim.Native.Nat.{ℕ, suc, _+_, _≤_}
+use native.Mathlib.Omega.{arith}
+use lib.ListN.{length, getD, drop, length-append, length-map}
+use lib.Seq.{getD-drop, drop-drop}
+use lib.IntN.{pos}
+use Rattle.format.specs.declared.Row.{Row}
+use Rattle.format.specs.Writing.{Table, rowAt, tabled}
+use Rattle.fill.specs.Columns.{Roomy, over, Filled}
+use Rattle.text.specs.Text.{Held}
+use Rattle.records.specs.Records.{RowOf}
+
+-- its numbers are of the columns' types
+pub row-of : {t : Table} {k : ℕ} {r : Row} → r ≡ rowAt t k → Held (rowAt t k) → RowOf t k r
+row-of e h = record { same = e; held = subst Held (sym e) h }
+
+-- ---- rows that stand in the columns
+
+-- one column, from k on
+abbrev Column : {A : Type 0} → (Row → A) → ℕ → List Row → List A → Type 0
+Column {A} f k rs l = (after : List A) × (drop k l ≡ map f rs ++ after)
+
+module _ {A : Type 0} (f : Row → A) (r : Row) (rs : List Row) where
+  column-first : (l : List A) (k : ℕ) (d : A) → Column f k (r ∷ rs) l → getD l k d ≡ f r
+  column-first l k d c = let e : k + 0 ≡ k = omega arith in ap (λ (i : ℕ). getD l i d) (sym e) ∙ sym (getD-drop k l 0 d) ∙ ap (λ (m : List A). getD m 0 d) (c .1)
+
+  column-rest : (l : List A) (k : ℕ) → Column f k (r ∷ rs) l → Column f (suc k) rs l
+  column-rest l k c = let e : suc k ≡ k + 1 = omega arith in (c .0, ap (λ (i : ℕ). drop i l) e ∙ sym (drop-drop 1 k l) ∙ ap (drop 1) (c .1))
+
+record Shown (k : ℕ) (rs : List Row) (t : Table) : Type 0 where
+  ty : Column (λ (r : Row). r .ty) k rs (t .ty)
+  own : Column (λ (r : Row). r .own) k rs (t .own)
+  label : Column (λ (r : Row). r .label) k rs (t .label)
+  number : Column (λ (r : Row). r .number) k rs (t .number)
+  first : Column (λ (r : Row). r .first) k rs (t .first)
+  second : Column (λ (r : Row). r .second) k rs (t .second)
+  place : Column (λ (r : Row). r .place) k rs (t .place)
+  below : Column (λ (r : Row). r .below) k rs (t .below)
+  start : Column (λ (r : Row). r .start) k rs (t .start)
+  end : Column (λ (r : Row). r .end) k rs (t .end)
+
+shown-first : {k : ℕ} {r : Row} {rs : List Row} {t : Table} → Shown k (r ∷ rs) t → rowAt t k ≡ r
+shown-first {k} {r} {rs} {t} s = rw (column-first (λ (r : Row). r .ty) r rs (t .ty) k (pos 0) (s .ty), column-first (λ (r : Row). r .own) r rs (t .own) k 0 (s .own), column-first (λ (r : Row). r .label) r rs (t .label) k 0 (s .label), column-first (λ (r : Row). r .number) r rs (t .number) k (pos 0) (s .number), column-first (λ (r : Row). r .first) r rs (t .first) k (pos 0) (s .first), column-first (λ (r : Row). r .second) r rs (t .second) k (pos 0) (s .second), column-first (λ (r : Row). r .place) r rs (t .place) k 0 (s .place), column-first (λ (r : Row). r .below) r rs (t .below) k 0 (s .below), column-first (λ (r : Row). r .start) r rs (t .start) k 0 (s .start), column-first (λ (r : Row). r .end) r rs (t .end) k 0 (s .end))
+
+shown-rest : {k : ℕ} {r : Row} {rs : List Row} {t : Table} → Shown k (r ∷ rs) t → Shown (suc k) rs t
+shown-rest {k} {r} {rs} {t} s = record {
+  ty = column-rest (λ (r : Row). r .ty) r rs (t .ty) k (s .ty);
+  own = column-rest (λ (r : Row). r .own) r rs (t .own) k (s .own);
+  label = column-rest (λ (r : Row). r .label) r rs (t .label) k (s .label);
+  number = column-rest (λ (r : Row). r .number) r rs (t .number) k (s .number);
+  first = column-rest (λ (r : Row). r .first) r rs (t .first) k (s .first);
+  second = column-rest (λ (r : Row). r .second) r rs (t .second) k (s .second);
+  place = column-rest (λ (r : Row). r .place) r rs (t .place) k (s .place);
+  below = column-rest (λ (r : Row). r .below) r rs (t .below) k (s .below);
+  start = column-rest (λ (r : Row). r .start) r rs (t .start) k (s .start);
+  end = column-rest (λ (r : Row). r .end) r rs (t .end) k (s .end);
+}
+
+shown-rows : (rs : List Row) (k : ℕ) {t : Table} → Shown k rs t → tabled t k (length rs) ≡ rs
+unfolding tabled
+shown-rows [] k s = refl
+shown-rows (r ∷ rs) k {t} s = ap (λ (q : Row). q ∷ tabled t (suc k) (length rs)) (shown-first s) ∙ ap (λ (l : List Row). r ∷ l) (shown-rows rs (suc k) (shown-rest s))
+
+-- rows that were filled in are the first of the table
+pub filled-rows : {rs : List Row} {t t' : Table} → Filled 0 rs t t' → tabled t' 0 (length rs) ≡ rs
+filled-rows {rs} {t} {t'} f = shown-rows rs 0 (record {
+  ty = (_, f .ty-filled);
+  own = (_, f .own-filled);
+  label = (_, f .label-filled);
+  number = (_, f .number-filled);
+  first = (_, f .first-filled);
+  second = (_, f .second-filled);
+  place = (_, f .place-filled);
+  below = (_, f .below-filled);
+  start = (_, f .start-filled);
+  end = (_, f .end-filled);
+})
+
+-- and so many rows are in every column
+filled-long : {A : Type 0} (f : Row → A) (rs : List Row) (l : List A) {m : List A} → m ≡ over 0 l (map f rs) → length rs ≤ length m
+filled-long f rs l e = omega (arith, ap length e, length-append (map f rs) (drop (0 + length (map f rs)) l), length-map rs f)
+
+pub filled-room : {rs : List Row} {t t' : Table} → Filled 0 rs t t' → Roomy (length rs) t'
+filled-room {rs} {t} f = record {
+  ty-room = filled-long (λ (r : Row). r .ty) rs (t .ty) (f .ty-filled);
+  own-room = filled-long (λ (r : Row). r .own) rs (t .own) (f .own-filled);
+  label-room = filled-long (λ (r : Row). r .label) rs (t .label) (f .label-filled);
+  number-room = filled-long (λ (r : Row). r .number) rs (t .number) (f .number-filled);
+  first-room = filled-long (λ (r : Row). r .first) rs (t .first) (f .first-filled);
+  second-room = filled-long (λ (r : Row). r .second) rs (t .second) (f .second-filled);
+  place-room = filled-long (λ (r : Row). r .place) rs (t .place) (f .place-filled);
+  below-room = filled-long (λ (r : Row). r .below) rs (t .below) (f .below-filled);
+  start-room = filled-long (λ (r : Row). r .start) rs (t .start) (f .start-filled);
+  end-room = filled-long (λ (r : Row). r .end) rs (t .end) (f .end-filled);
+}
