@@ -3,7 +3,7 @@ ghost use lib.ListN.{length};
 ghost use Rattle.format.specs.Desk.{printed, lineText};
 ghost use Rattle.format.specs.Message.{readFrame};
 ghost use Rattle.fill.specs.Columns.{columns, Roomy};
-ghost use Rattle.listing.specs.Listing.{Fits, RowsListed, Listed};
+ghost use Rattle.listing.specs.Listing.{Fits, RowsListed, Listed, LinesListed};
 use frame::Framed;
 use reading::Refusal;
 use text::Line;
@@ -116,4 +116,28 @@ pub fn list_line(line: &[u8], out: &mut [u8], at: usize) -> usize
         ),
         Line::Octets(n) => list_frame(&octets[..n], out, at),
     }
+}
+
+// How many octets of the lines are listed, and how many are written.
+pub struct Progress {
+    pub used: usize,
+    pub written: usize,
+}
+
+// Lists whole lines from the front, each with its line feed, while there is room for what one more gives.
+pub fn list_lines(src: &[u8], out: &mut [u8]) -> Progress
+    ensures { λ r. ⌜ LinesListed (now (src .entry)) (now (out .entry)) r (now (out .exit)) ⌝ }
+{
+    let n = src.len();
+    let mut used = 0;
+    let mut written = 0;
+    while 32768 <= out.len() - written {
+        let end = bytes::scan::find(src, used, n, b'\n');
+        if end == n {
+            break;
+        }
+        written = list_line(&src[used..end], out, written);
+        used = end + 1;
+    }
+    Progress { used, written }
 }
