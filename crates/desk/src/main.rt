@@ -10,32 +10,24 @@ enum Went {
     Failed,
 }
 
-// Lists the whole lines among the octets.
+// Lists the whole lines among the octets, a run of them at a time.
 fn list_all(src: &[u8], out: &mut [u8]) -> Went
-    requires { ⌜ 32768 ≤ length (now out) ⌝ }
     ensures { λ r. ⌜ Within (length (now (src .entry))) r ⌝ }
 {
-    let n = src.len();
     let mut at = 0;
-    let mut written = 0;
-    while at < n {
-        let end = bytes::scan::find(src, at, n, b'\n');
-        if end == n {
+    while at < src.len() {
+        let p = listing::list_lines(&src[at..], out);
+        let used = p.used;
+        let written = p.written;
+        if used == 0 {
             break;
         }
-        if out.len() - written < 32768 {
-            if !io::write_all(libc::STDOUT_FILENO, &out[..written]) {
-                return Went::Failed;
-            }
-            written = 0;
+        if !io::write_all(libc::STDOUT_FILENO, &out[..written]) {
+            return Went::Failed;
         }
-        written = listing::list_line(&src[at..end], out, written);
-        at = end + 1;
+        at += used;
     }
-    if io::write_all(libc::STDOUT_FILENO, &out[..written]) {
-        return Went::Used(at);
-    }
-    Went::Failed
+    Went::Used(at)
 }
 
 // A last line without a line feed is 17.
