@@ -1,9 +1,10 @@
 -- The rows of a value (01, "The rows").
 use mathlib.Core.Bool.{Bool, true, false, cond}
 use mathlib.Core.List.{List, [], _∷_, _++_}
-use Prim.Native.Nat.{ℕ, suc, _+_, _-_}
+use Prim.Native.Nat.{ℕ, suc, _+_, _-_, _^_, _<_}
 use lib.ListN.{length}
 use lib.IntN.{pos}
+use lib.Signed.{mag}
 use Rattle.format.specs.declared.Row.{Row}
 use Rattle.format.specs.Types.{Text, none, octets, characters, kindOf}
 use Rattle.format.specs.Values.{Head, Children, empty, child, childOf, Value, value, ruleOf}
@@ -50,3 +51,16 @@ rowsFrom x at (child i h cs next) =
 -- 01: "a row's are message places, counted from the message's first octet"; the outermost has label 0
 unfoldable pub rows : Value → List Row
 rows v = rowsFrom false 0 (childOf 0 v empty)
+
+-- the numbers of a row are of its columns' types
+pub record Sized (r : Row) : Type 0 where
+  pub ty : mag (r .ty) < 2 ^ 31
+  pub own : r .own < 2 ^ 8
+  pub label : r .label < 2 ^ 32
+  pub number : mag (r .number) < 2 ^ 63
+  pub first : mag (r .first) < 2 ^ 31
+  pub second : mag (r .second) < 2 ^ 31
+  pub place : r .place < 2 ^ 32
+  pub below : r .below < 2 ^ 32
+  pub start : r .start < 2 ^ 32
+  pub end : r .end < 2 ^ 32

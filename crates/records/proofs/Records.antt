@@ -9,12 +9,12 @@ use lib.IntN.{pos}
 use Rattle.format.specs.declared.Row.{Row}
 use Rattle.format.specs.Writing.{Table, rowAt, tabled}
 use Rattle.fill.specs.Columns.{Roomy, over, Filled}
-use Rattle.text.specs.Text.{Held}
+use Rattle.format.specs.Rows.{Sized}
 use Rattle.records.specs.Records.{RowOf}
 
 -- its numbers are of the columns' types
-pub row-of : {t : Table} {k : ℕ} {r : Row} → r ≡ rowAt t k → Held (rowAt t k) → RowOf t k r
-row-of e h = record { same = e; held = subst Held (sym e) h }
+pub row-of : {t : Table} {k : ℕ} {r : Row} → r ≡ rowAt t k → Sized (rowAt t k) → RowOf t k r
+row-of e h = record { same = e; held = subst Sized (sym e) h }
 
 -- ---- rows that stand in the columns
 

@@ -10,7 +10,8 @@ use Rattle.reading.specs.declared.Refusal.{Refusal}
 use Rattle.format.specs.Desk.{decimal, numbers, rowText, rowsText, printed}
 use Rattle.format.specs.Message.{ok, refused}
 use Rattle.format.specs.declared.Row.{Row}
-use Rattle.text.specs.Text.{others, Held, accepted}
+use Rattle.format.specs.Rows.{Sized}
+use Rattle.text.specs.Text.{others, accepted}
 use Rattle.text.proofs.Decimal.{digits-few, signed-length, count-length, decimal-length}
 use Rattle.text.proofs.Lines.{numbers-none, numbers-more}
 
@@ -30,7 +31,7 @@ octet n h = digits-few 2 n (omega arith)
 count : (n : ℕ) → n < 2 ^ 32 → length (decimal (pos n)) ≤ 10
 count n h = digits-few 9 n (omega arith)
 
-pub row-length : {r : Row} → Held r → length (rowText r) ≤ 116
+pub row-length : {r : Row} → Sized r → length (rowText r) ≤ 116
 row-length {r} h =
     let rest : length (numbers (others r)) ≤ 105 =
     size _ _ (octet _ (h .own)) (size _ _ (count _ (h .label)) (size _ _ (decimal-length _ (h .number)) (size _ _ (signed _ (h .first)) (size _ _ (signed _ (h .second))

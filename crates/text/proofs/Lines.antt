@@ -12,8 +12,9 @@ use mir.Val.{SFits, toZ, ofZ}
 use mir.ValLaws.{toZ-ofZ, toZ-pos}
 use Rattle.format.specs.Desk.{decimal, numbers, rowText}
 use Rattle.format.specs.declared.Row.{Row}
+use Rattle.format.specs.Rows.{Sized}
 use Rattle.integer.specs.Writes.{Room, Wrote}
-use Rattle.text.specs.Text.{others, Held, told}
+use Rattle.text.specs.Text.{others, told}
 use Rattle.text.proofs.Signs.{wide}
 use Rattle.text.proofs.Writes.{Left, left-all, left-one, left-part, left-fits}
 
@@ -33,7 +34,7 @@ pub numbers-end : (zs : List ℤ) (i : ℕ) → length zs ≤ i → numbers (dro
 numbers-end zs i h = ap numbers (drop-of-length-le zs h) ∙ numbers-none
 
 -- a row's numbers as 64-bit numbers
-pub others-same : {r : Row} → Held r
+pub others-same : {r : Row} → Sized r
     → toZ w64 (r .own) ∷ toZ w64 (r .label) ∷ toZ w64 (ofZ w64 (r .number)) ∷ toZ w64 (ofZ w64 (toZ w32 (ofZ w32 (r .first))))
     ∷ toZ w64 (ofZ w64 (toZ w32 (ofZ w32 (r .second)))) ∷ toZ w64 (r .place) ∷ toZ w64 (r .below) ∷ toZ w64 (r .start) ∷ toZ w64 (r .end) ∷ []
     ≡ others r
