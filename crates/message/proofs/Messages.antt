@@ -47,7 +47,7 @@ least-le a b = by (leb a b) refl
 below : {n : ℕ} (a b : ℕ) → n ≤ least a b → (n ≤ a) × (n ≤ b)
 below a b h = (omega (arith, h, least-le a b .0), omega (arith, h, least-le a b .1))
 
-room-for : {n : ℕ} (t : Table) → n ≤ shortest t → Roomy n t
+pub room-for : {n : ℕ} (t : Table) → n ≤ shortest t → Roomy n t
 unfolding shortest
 room-for t h =
     let p = below _ _ h in

@@ -16,7 +16,7 @@ fn least(a: usize, b: usize) -> usize
 }
 
 // The least of ten lengths.
-fn least_of(
+pub fn least_of(
     ty: usize,
     own: usize,
     label: usize,

@@ -1,16 +1,25 @@
 -- The rows of ten columns.
 use mathlib.Core.Path.{_≡_, refl, sym, ap, subst, _∙_}
+use mathlib.Core.Bool.{Bool, true, false}
 use mathlib.Core.List.{List, [], _∷_, _++_, map}
-use Prim.Native.Nat.{ℕ, suc, _+_, _≤_}
+use Prim.Native.Nat.{ℕ, zero, suc, _+_, _-_, _<_, _≤_}
 use native.Mathlib.Omega.{arith}
 use lib.ListN.{length, getD, drop, length-append, length-map}
 use lib.Seq.{getD-drop, drop-drop}
 use lib.IntN.{pos}
+use lib.Dec.{ltb}
+use borrow.Author.Tests.{ltb-true, ltb-false, eq-eqb, ne-eqb}
+use Rattle.reading.specs.Reading.{refusal}
 use Rattle.format.specs.declared.Row.{Row}
+use Rattle.format.specs.declared.As.{As}
+use Rattle.format.specs.Message.{refused}
+use Rattle.format.specs.Asking.{ask, lookup}
 use Rattle.format.specs.Writing.{Table, rowAt, tabled}
+use Rattle.message.specs.Messages.{shortest}
+use Rattle.message.proofs.Messages.{room-for}
 use Rattle.fill.specs.Columns.{Roomy, over, Filled}
 use Rattle.format.specs.Rows.{Sized}
-use Rattle.records.specs.Records.{RowOf}
+use Rattle.records.specs.Records.{RowOf, LabelAt, rowsIn}
 
 -- its numbers are of the columns' types
 pub row-of : {t : Table} {k : ℕ} {r : Row} → r ≡ rowAt t k → Sized (rowAt t k) → RowOf t k r
@@ -95,3 +104,59 @@ filled-room {rs} {t} f = record {
   start-room = filled-long (λ (r : Row). r .start) rs (t .start) (f .start-filled);
   end-room = filled-long (λ (r : Row). r .end) rs (t .end) (f .end-filled);
 }
+
+-- ---- the first row with a label
+
+-- the first i labels are others
+pub record Others (l : List ℕ) (x i : ℕ) : Type 0 where
+  pub none : (k : ℕ) → k < i → getD l k 0 ≡ x → ⊥
+
+pub others-none : {l : List ℕ} {x : ℕ} → Others l x 0
+others-none = record { none = λ k h e. omega (arith, h) }
+
+pub others-more : {l : List ℕ} {x i : ℕ} → Others l x i → (getD l i 0 ≡ x → ⊥) → Others l x (i + 1)
+others-more {l} {x} {i} b e = record { none = λ k h q. by k h q (ltb k i) refl }
+  where
+    by : (k : ℕ) → k < i + 1 → getD l k 0 ≡ x → (y : Bool) → ltb k i ≡ y → ⊥
+    by k h q true m = b .none k (ltb-true k i m) q
+    by k h q false m = let same : k ≡ i = omega (arith, h, ltb-false k i m) in e (subst (λ (j : ℕ). getD l j 0 ≡ x) same q)
+
+pub label-here : {l : List ℕ} {n x i : ℕ} → Others l x i → i < n → getD l i 0 ≡ x → LabelAt l n x i
+label-here b h e = record { before = b .none; found = λ k. e; within = omega (arith, h) }
+
+pub label-nowhere : {l : List ℕ} {n x i : ℕ} → (i ≤ n) × Others l x i → n ≤ i → LabelAt l n x n
+label-nowhere b h = record { before = λ k g. b .1 .none k (omega (arith, g, h)); found = λ k. absurd (omega (arith, k)); within = omega arith }
+
+-- rows with other labels are passed over
+passed : (t : Table) (x : ℕ) (a : As) (m n i : ℕ) → ((k : ℕ) → i ≤ k → k < i + m → getD (t .label) k 0 ≡ x → ⊥) → lookup (tabled t i (m + n)) x a ≡ lookup (tabled t (i + m) n) x a
+unfolding tabled lookup
+passed t x a zero n i b = let e : zero + n ≡ n = omega arith in let f : i + zero ≡ i = omega arith in rw (e, f)
+passed t x a (suc m) n i b =
+    let e : suc m + n ≡ suc (m + n) = omega arith in
+    let f : i + suc m ≡ suc i + m = omega arith in
+    rw (e, f, ne-eqb (getD (t .label) i 0) x (b i (omega arith) (omega arith))) (passed t x a m n (suc i) (λ k h g. b k (omega (arith, h)) (omega (arith, g))))
+
+module _ (t : Table) {n x r : ℕ} (s : n ≡ shortest t) (l : LabelAt (t .label) n x r) (a : As) where
+  to-row : lookup (rowsIn t) x a ≡ lookup (tabled t r (n - r)) x a
+  unfolding rowsIn
+  to-row =
+      let e : shortest t ≡ r + (n - r) = omega (arith, s, l .within) in
+      let z : 0 + r ≡ r = omega arith in
+      ap (λ (m : ℕ). lookup (tabled t 0 m) x a) e ∙ passed t x a r (n - r) 0 (λ k h g. l .before k (omega (arith, g))) ∙ ap (λ (i : ℕ). lookup (tabled t i (n - r)) x a) z
+
+  pub row-asked : r < n → {q : Row} → RowOf t r q → ask a q ≡ lookup (rowsIn t) x a
+  unfolding tabled lookup
+  row-asked h w =
+      let e : n - r ≡ suc (n - r - 1) = omega (arith, h) in
+      ap (ask a) (w .same) ∙ sym (to-row ∙ rw (e, eq-eqb (getD (t .label) r 0) x (l .found h)))
+
+  pub no-row : n ≤ r → refused (refusal 16 0) ≡ lookup (rowsIn t) x a
+  unfolding tabled lookup
+  no-row h = let e : n - r ≡ 0 = omega (arith, h) in sym (to-row ∙ rw e)
+
+-- a row below the shortest column's length
+pub row-room : {n k : ℕ} (t : Table) → n ≡ shortest t → k < n → Roomy (k + 1) t
+row-room t e h = room-for t (omega (arith, e, h))
+
+pub labels-room : {n : ℕ} (t : Table) → n ≡ shortest t → n ≤ length (t .label)
+labels-room {n} t e = room-for {n = n} t (omega (arith, e)) .label-room
