@@ -1,0 +1,3 @@
+mod Alike
+mod Listed
+mod Numbers
