@@ -29,7 +29,7 @@ use Rattle.measure.specs.declared.Step.the-variants.{On, Stop}
 use Rattle.measure.specs.Tally.{valueRows}
 use Rattle.measure.specs.Cycle.{stepOut}
 use Rattle.measure.specs.Entries.{none, FirstAt}
-use Rattle.measure.proofs.Entries.{counted-out, refused-out}
+use Rattle.measure.proofs.Entries.{ends-left, ends-all, counted-out, refused-out}
 use Rattle.frame.specs.declared.FramePlace.{FramePlace}
 use Rattle.frame.specs.declared.Opened.{Opened}
 use Rattle.frame.specs.declared.Opened.the-variants.{Message, Unframed}
@@ -188,15 +188,15 @@ module _ (o : List ℕ) (from : FramePlace) (c : ℤ) {r : Step} (f : FirstAt o 
     accepted = counted-out o (f .after) next n (outermost (stand o (from .0) none)) (ap (stepOut o (f .after)) (sym e) ∙ f .same)
 
     over-value : (v : Value) → next < length o → then (answer (here-on v (stand o next (f .after)))) needed ≡ refused (refusal 11 next)
-    unfolding ends here ahead require _>>=_ stand
-    over-value v h = rw (drop-cons o next 0 h)
+    unfolding _>>=_
+    over-value v h = ap (λ (x : Out (Unit {0})). then (answer (follow {B = Frame} x (λ _. framed v))) needed) (ends-left o next (f .after) h)
 
     pub message-left : next < length o → MessageIn o from c (Refused (refusal 11 next))
     message-left h = record { same = sym (by-value _ (accepted .1) ∙ over-value (accepted .0) h) }
 
     all-read : (v : Value) (u : Bool) → length o ≤ next → u ≡ isUser v → here-on v (stand o next (f .after)) ≡ (require u 16 0 >>= λ _. return (record { conversation = c; from = from .0; said = v })) (stand o next (f .after))
-    unfolding ends here ahead _>>=_ stand require
-    all-read v u h k = rw (drop-of-length-le o h, k)
+    unfolding _>>=_ require
+    all-read v u h k = ap (λ (x : Out (Unit {0})). follow {B = Frame} x (λ _. framed v)) (ends-all o next (f .after) h) ∙ rw k
 
     module _ {u : Bool} (user : UserAt o (from .0) u) (h : length o ≤ next) where
       judged : then (answer (messageIn (from .0) c (stand o (from .0) none))) needed ≡ then (answer ((require u 16 0 >>= λ _. return (record { conversation = c; from = from .0; said = accepted .0 })) (stand o next (f .after)))) needed

@@ -123,13 +123,22 @@ abbrev amount : Value → Answer ℕ
 amount v = ok (length (rows v))
 
 module _ (o : List ℕ) where
-  left-over : (next : ℕ) (e : Env) (v : Value) → next < length o → refused (refusal 11 next) ≡ then (answer (finished v (stand o next e))) amount
+  -- whether octets are left
+  pub ends-left : (next : ℕ) (e : Env) → next < length o → ends (stand o next e) ≡ stop (refusal 11 next)
   unfolding ends here ahead require _>>=_ stand
-  left-over next e v h = rw (drop-cons o next 0 h)
+  ends-left next e h = rw (drop-cons o next 0 h)
+
+  pub ends-all : (next : ℕ) (e : Env) → length o ≤ next → ends (stand o next e) ≡ got tt (stand o next e)
+  unfolding ends here ahead require _>>=_ stand
+  ends-all next e h = rw (drop-of-length-le o h)
+
+  left-over : (next : ℕ) (e : Env) (v : Value) → next < length o → refused (refusal 11 next) ≡ then (answer (finished v (stand o next e))) amount
+  unfolding _>>=_
+  left-over next e v h = sym (ap (λ (x : Out (Unit {0})). then (answer (follow {B = Value} x (λ _. return v))) amount) (ends-left next e h))
 
   all-read : (next n : ℕ) (e : Env) (v : Value) → length o ≤ next → n ≡ suc (count (v .inside)) → ok n ≡ then (answer (finished v (stand o next e))) amount
-  unfolding ends here ahead require _>>=_ stand return
-  all-read next n e v h k = rw (drop-of-length-le o h) (ap ok (k ∙ sym (value-rows v)))
+  unfolding _>>=_ return
+  all-read next n e v h k = sym (ap (λ (x : Out (Unit {0})). then (answer (follow {B = Value} x (λ _. return v))) amount) (ends-all next e h) ∙ ap ok (value-rows v ∙ sym k))
 
   pub counted-out : (e : Env) (next n : ℕ) (x : Out Value) → stepOut o e (On next n) ≡ follow x (λ v. return (suc (count (v .inside))))
       → (v : Value) × (x ≡ got v (stand o next e)) × (n ≡ suc (count (v .inside)))
