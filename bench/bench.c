@@ -72,22 +72,10 @@ static void pack_inside(msgpack_packer *to, size_t i, int indexed)
     }
 }
 
-/* Packs row i and all below it as MessagePack has such values; gives the row past them. */
-static size_t pack(msgpack_packer *to, size_t i)
+/* Packs row i, which has none below it and is no container. */
+static void pack_plain(msgpack_packer *to, size_t i)
 {
-    size_t inside = 0;
-    for (size_t j = i + 1; j < i + 1 + below[i]; j += 1 + below[j])
-        inside++;
-    if (ty[i] >= 0 || ty[i] == -26 || ty[i] == -27) { /* a user type, a sparse array */
-        msgpack_pack_map(to, inside);
-        pack_inside(to, i, 1);
-    } else if (ty[i] <= -28 && ty[i] >= -30) { /* a map */
-        msgpack_pack_map(to, inside / 2);
-        pack_inside(to, i, 0);
-    } else if (inside > 0 || (ty[i] <= -22 && ty[i] >= -25) || ty[i] == -36) { /* a collection, an array, an identity, a date or time */
-        msgpack_pack_array(to, inside);
-        pack_inside(to, i, 0);
-    } else if (ty[i] == -13) {
+    if (ty[i] == -13) {
         msgpack_pack_bin(to, (size_t)number[i]);
         msgpack_pack_bin_body(to, octets + contents[i], (size_t)number[i]);
     } else if (ty[i] == -15 || ty[i] == -35) {
@@ -107,6 +95,26 @@ static size_t pack(msgpack_packer *to, size_t i)
         msgpack_pack_nil(to);
     } else {
         msgpack_pack_int64(to, number[i]);
+    }
+}
+
+/* Packs row i and all below it as MessagePack has such values; gives the row past them. */
+static size_t pack(msgpack_packer *to, size_t i)
+{
+    size_t inside = 0;
+    for (size_t j = i + 1; j < i + 1 + below[i]; j += 1 + below[j])
+        inside++;
+    if (ty[i] >= 0 || ty[i] == -26 || ty[i] == -27) { /* a user type, a sparse array */
+        msgpack_pack_map(to, inside);
+        pack_inside(to, i, 1);
+    } else if (ty[i] <= -28 && ty[i] >= -30) { /* a map */
+        msgpack_pack_map(to, inside / 2);
+        pack_inside(to, i, 0);
+    } else if (inside > 0 || (ty[i] <= -22 && ty[i] >= -25) || ty[i] == -36) { /* a collection, an array, an identity, a date or time */
+        msgpack_pack_array(to, inside);
+        pack_inside(to, i, 0);
+    } else {
+        pack_plain(to, i);
     }
     return i + 1 + below[i];
 }
