@@ -7,12 +7,15 @@ use native.Mathlib.Omega.{arith}
 use lib.ListN.{length, getD, take, drop, length-drop}
 use lib.Seq.{length-sets, take-all}
 use lib.Dec.{leb, eqb}
-use borrow.Author.Tests.{le-leb, lt-leb, eq-eqb, ne-eqb}
+use borrow.Author.Tests.{le-leb, lt-leb, lt-ltb, le-ltb, eq-eqb, ne-eqb}
 use Rattle.format.specs.Desk.{allDigits, octetsOf}
 use Rattle.integer.specs.Writes.{Room, Wrote}
 use Rattle.text.proofs.Digits.{octets-length}
 use Rattle.text.proofs.Writes.{wrote-front}
-use Rattle.answers.specs.Cases.{Field, some, malformed, isPairs, fieldOf}
+use Rattle.text.specs.declared.Line.{Line}
+use Rattle.text.specs.declared.Line.the-variants.{Octets, Not}
+use Rattle.answers.specs.Cases.{Field, some, malformed, isPairs, fieldOf, alone, bad, fieldReply, caseReply}
+use Rattle.answers.specs.Fields.{FieldRead, CaseRead}
 
 module _ (l : List ℕ) where
   pub none-there : length l ≡ 0 → fieldOf l ≡ malformed
@@ -49,5 +52,19 @@ module _ (l : List ℕ) where
       (whole g o e ∙ ap some (sym (wrote-front w fits)), omega (arith, w .past, ap length (w .holds) ∙ length-sets work 0 (octetsOf l)))
 
 -- what follows a case's letter and blank
-pub rest-all : (l : List ℕ) → take (length l - 2) (drop 2 l) ≡ drop 2 l
+rest-all : (l : List ℕ) → take (length l - 2) (drop 2 l) ≡ drop 2 l
 rest-all l = take-all (length l - 2) (drop 2 l) (omega (arith, length-drop 2 l))
+
+pub case-short : (l : List ℕ) → length l < 2 → caseReply l ≡ alone bad
+case-short l h = rw (lt-ltb (length l) 2 h)
+
+module _ (l : List ℕ) (h : 2 ≤ length l) where
+  pub case-other : (getD l 1 0 ≡ 0x20 → ⊥) → caseReply l ≡ alone bad
+  case-other e = rw (le-ltb (length l) 2 h, ne-eqb (getD l 1 0) 0x20 e)
+
+  case-field : getD l 1 0 ≡ 0x20 → caseReply l ≡ fieldReply (getD l 0 0) (fieldOf (drop 2 l))
+  case-field e = rw (le-ltb (length l) 2 h, eq-eqb (getD l 1 0) 0x20 e)
+
+  pub case-read : getD l 1 0 ≡ 0x20 → (r : Line) (after : List ℕ) → FieldRead (take (length l - 2) (drop 2 l)) r after → CaseRead l r after
+  case-read e (Octets n) after f = (case-field e ∙ ap (fieldReply (getD l 0 0)) (ap fieldOf (sym (rest-all l)) ∙ f .0), f .1, h)
+  case-read e Not after f = case-field e ∙ ap (fieldReply (getD l 0 0)) (ap fieldOf (sym (rest-all l)) ∙ f)

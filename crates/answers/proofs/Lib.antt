@@ -1,2 +1,4 @@
 pub mod Texts
 pub mod Fields
+pub mod Replies
+pub mod Slashes

@@ -1,18 +1,56 @@
 -- Answers: their parts, and how long they are at most.
-use mathlib.Core.Path.{_≡_, refl, ap}
-use mathlib.Core.List.{List, [], _∷_, _++_}
-use Prim.Native.Nat.{ℕ, suc, _+_, _^_, _<_, _≤_}
+use mathlib.Core.Path.{_≡_, refl, sym, ap, subst, _∙_}
+use mathlib.Core.List.{List, [], _∷_, _++_, append-nil}
+use Prim.Native.Nat.{ℕ, suc, _+_, _*_, _^_, _<_, _≤_}
 use native.Mathlib.Omega.{arith}
-use lib.ListN.{length, set, length-append}
-use lib.IntN.{pos}
+use native.Mathlib.Numerals.{add-one}
+use lib.ListN.{length, getD, drop, set, length-append, drop-of-length-le}
+use lib.Seq.{drop-cons}
+use lib.IntN.{ℤ, pos}
+use lib.Signed.{mag}
+use mir.Syntax.{w32, w64}
+use mir.Val.{toZ, ofZ}
 use Rattle.reading.specs.declared.Refusal.{Refusal}
-use Rattle.format.specs.Desk.{decimal}
-use Rattle.format.specs.Message.{ok, refused}
+use Rattle.format.specs.declared.Row.{Row}
+use Rattle.format.specs.Desk.{decimal, numbers}
+use Rattle.format.specs.Writing.{Table, rowAt, tabled}
 use Rattle.integer.specs.Writes.{Room, Wrote}
-use Rattle.text.proofs.Decimal.{digits-few, count-length}
-use Rattle.text.proofs.Lines.{numbers-none, numbers-more}
-use Rattle.text.proofs.Writes.{Left, left-all, left-one}
-use Rattle.answers.specs.Cases.{bad, answerText}
+use Rattle.format.specs.Rows.{Sized}
+use Rattle.text.specs.Text.{others}
+use Rattle.text.proofs.Decimal.{digits-few, count-length, signed-length}
+use Rattle.text.proofs.Lengths.{row-length}
+use Rattle.text.proofs.Lines.{numbers-none, numbers-more, others-same}
+use Rattle.text.proofs.Signs.{wide}
+use Rattle.text.proofs.Writes.{Left, left-all, left-one, wrote-append, wrote-kept}
+use Rattle.records.specs.Records.{RowOf}
+use Rattle.records.proofs.Records.{last-text}
+use Rattle.listing.specs.Listing.{Listed}
+use Rattle.answers.specs.Cases.{spaced, rowPart, rowParts, bad, accepted, refusedBy}
+use Rattle.answers.specs.Replies.{PartsFit, PartsPut}
+
+-- ---- numbers
+
+pub spaced-none : spaced [] ≡ []
+unfolding spaced
+spaced-none = refl
+
+pub spaced-more : (z : ℤ) (l : List ℤ) → spaced (z ∷ l) ≡ 0x20 ∷ (decimal z ++ spaced l)
+unfolding spaced
+spaced-more z l = refl
+
+-- from the i-th number on
+pub spaced-at : (zs : List ℤ) (i : ℕ) → i < length zs → spaced (drop i zs) ≡ 0x20 ∷ (decimal (getD zs i (pos 0)) ++ spaced (drop (i + 1) zs))
+spaced-at zs i h = ap spaced (drop-cons zs i (pos 0) h) ∙ spaced-more _ _ ∙ rw add-one
+
+pub spaced-end : (zs : List ℤ) (i : ℕ) → length zs ≤ i → spaced (drop i zs) ≡ []
+spaced-end zs i h = ap spaced (drop-of-length-le zs h) ∙ spaced-none
+
+-- as long as the numbers of a line without its line feed
+spaced-length : (zs : List ℤ) → length (spaced zs) + 1 ≡ length (numbers zs)
+spaced-length [] = rw (spaced-none, numbers-none)
+spaced-length (z ∷ l) = rw (spaced-more, numbers-more, length-append (decimal z) (spaced l), length-append (decimal z) (numbers l)) (omega (arith, spaced-length l))
+
+-- ---- what an answer begins with
 
 -- two letters are written
 module _ {a b : ℕ} {v vs : List ℕ} {at : ℕ} {l : List ℕ} (e : v ≡ a ∷ b ∷ vs) (h : Room v at l) where
@@ -22,37 +60,62 @@ module _ {a b : ℕ} {v vs : List ℕ} {at : ℕ} {l : List ℕ} (e : v ≡ a �
   pub letters-room : at + 1 < length l
   letters-room = omega (arith, h .room, ap length e)
 
--- a number in a line
-abbrev pub number : ℕ → List ℕ
-number n = 0x20 ∷ decimal (pos n)
+-- a number in an answer
+abbrev pub number : ℤ → List ℕ
+number z = 0x20 ∷ decimal z
 
-pub ok-parts : (n : ℕ) → answerText (ok n) ≡ 0x6F ∷ 0x6B ∷ (number n ++ (0x0A ∷ []))
-ok-parts n = rw (numbers-more, numbers-none)
+pub ok-parts : (z : ℤ) → accepted (z ∷ []) ≡ 0x6F ∷ 0x6B ∷ (number z ++ [])
+ok-parts z = rw (spaced-more, spaced-none)
 
-pub no-parts : (r : Refusal) → answerText (refused r) ≡ 0x6E ∷ 0x6F ∷ (number (r .number) ++ (number (r .place) ++ (number 1 ++ (0x0A ∷ []))))
-no-parts r = rw (numbers-more, numbers-more, numbers-more, numbers-none)
+pub framed-parts : (z : ℤ) (n : ℕ) → accepted (z ∷ pos n ∷ []) ≡ 0x6F ∷ 0x6B ∷ 0x20 ∷ (decimal z ++ (number (pos n) ++ []))
+framed-parts z n = rw (spaced-more, spaced-more, spaced-none)
 
-pub ok-short : (n : ℕ) → n < 2 ^ 64 → length (answerText (ok n)) ≤ 64
-ok-short n h = omega (arith, ap length (ok-parts n), length-append (decimal (pos n)) (0x0A ∷ []), count-length n h)
+pub no-parts : (r : Refusal) → refusedBy r ≡ 0x6E ∷ 0x6F ∷ (number (pos (r .number)) ++ (number (pos (r .place)) ++ (number (pos 1) ++ [])))
+no-parts r = rw (spaced-more, spaced-more, spaced-more, spaced-none)
 
-pub no-short : (r : Refusal) → r .number < 2 ^ 8 → r .place < 2 ^ 64 → length (answerText (refused r)) ≤ 64
+-- the letters and a blank are written
+module _ (z : ℤ) (n : ℕ) {at : ℕ} {l : List ℕ} (h : Room (accepted (z ∷ pos n ∷ [])) at l) where
+  pub framed-begun : Left (accepted (z ∷ pos n ∷ [])) at l (decimal z ++ (number (pos n) ++ [])) (at + 3) (set (set (set l at 0x6F) (at + 1) 0x6B) (at + 2) 0x20)
+  framed-begun = let three : at + 2 + 1 ≡ at + 3 = omega arith in rw three at (left-one (letters (framed-parts z n) h) refl)
+
+ok-length : (z : ℤ) → length (accepted (z ∷ [])) ≡ length (decimal z) + 3
+ok-length z = ap length (ok-parts z) ∙ omega (arith, length-append (decimal z) [])
+
+pub ok-short : (n : ℕ) → n < 2 ^ 64 → length (accepted (pos n ∷ [])) ≤ 64
+ok-short n h = omega (arith, ok-length (pos n), count-length n h)
+
+pub framed-short : (z : ℤ) (n : ℕ) → mag z < 2 ^ 31 → n < 2 ^ 64 → length (accepted (z ∷ pos n ∷ [])) ≤ 64
+framed-short z n h g =
+    omega (
+      arith,
+      ap length (framed-parts z n),
+      length-append (decimal z) (number (pos n) ++ []),
+      length-append (decimal (pos n)) [],
+      signed-length 9 z (omega arith),
+      count-length n g,
+    )
+
+pub no-short : (r : Refusal) → r .number < 2 ^ 8 → r .place < 2 ^ 64 → length (refusedBy r) ≤ 64
 no-short r h g =
     omega (
       arith,
       ap length (no-parts r),
-      length-append (decimal (pos (r .number))) (number (r .place) ++ (number 1 ++ (0x0A ∷ []))),
-      length-append (decimal (pos (r .place))) (number 1 ++ (0x0A ∷ [])),
-      length-append (decimal (pos 1)) (0x0A ∷ []),
+      length-append (decimal (pos (r .number))) (number (pos (r .place)) ++ (number (pos 1) ++ [])),
+      length-append (decimal (pos (r .place))) (number (pos 1) ++ []),
+      length-append (decimal (pos 1)) [],
       digits-few 2 (r .number) (omega arith),
       count-length (r .place) g,
       digits-few 0 1 (omega arith),
     )
 
-pub room : {v : List ℕ} {at : ℕ} {l : List ℕ} → length v ≤ 64 → at + 64 ≤ length l → Room v at l
-room h g = record { room = omega arith }
+pub room : {v : List ℕ} (at : ℕ) (l : List ℕ) → length v ≤ 64 → at + 32768 ≤ length l → Room v at l
+room at l h g = record { room = omega arith }
 
-pub bad-wrote : (at : ℕ) (l : List ℕ) → Wrote bad at l (at + 4) (set (set (set (set l at 0x62) (at + 1) 0x61) (at + 2) 0x64) (at + 3) 0x0A)
-bad-wrote at l = record { past = omega arith; holds = rw (one, two, three) }
+pub listed : {v : List ℕ} {at next : ℕ} {l out : List ℕ} → length v ≤ 64 → Wrote v at l next out → Listed v at l next out
+listed h w = record { wrote = w; short = omega arith }
+
+pub bad-wrote : (at : ℕ) (l : List ℕ) → Wrote bad at l (at + 3) (set (set (set l at 0x62) (at + 1) 0x61) (at + 2) 0x64)
+bad-wrote at l = record { past = omega arith; holds = rw (one, two) }
   where
     one : at + 1 ≡ suc at
     one = omega arith
@@ -60,5 +123,43 @@ bad-wrote at l = record { past = omega arith; holds = rw (one, two, three) }
     two : at + 2 ≡ suc (suc at)
     two = omega arith
 
-    three : at + 3 ≡ suc (suc (suc at))
-    three = omega arith
+-- ---- rows one after another
+
+-- a row's numbers as 64-bit numbers
+pub numbers-same : {r : Row} → Sized r
+    → toZ w64 (ofZ w64 (toZ w32 (ofZ w32 (r .ty)))) ∷ toZ w64 (r .own) ∷ toZ w64 (r .label) ∷ toZ w64 (ofZ w64 (r .number)) ∷ toZ w64 (ofZ w64 (toZ w32 (ofZ w32 (r .first))))
+    ∷ toZ w64 (ofZ w64 (toZ w32 (ofZ w32 (r .second)))) ∷ toZ w64 (r .place) ∷ toZ w64 (r .below) ∷ toZ w64 (r .start) ∷ toZ w64 (r .end) ∷ []
+    ≡ r .ty ∷ others r
+numbers-same {r} h = rw (wide (r .ty) (record { sfits = h .ty })) (ap (λ (l : List ℤ). r .ty ∷ l) (others-same h))
+
+part-length : {r : Row} → Sized r → length (rowPart r) ≤ 118
+part-length {r} h =
+    omega (
+      arith,
+      ap length (spaced-more (r .ty) (others r)),
+      length-append (decimal (r .ty)) (spaced (others r)),
+      spaced-length (others r),
+      length-append (decimal (r .ty)) (numbers (others r)),
+      row-length h,
+    )
+
+one-more : (t : Table) (k n : ℕ) → rowParts (tabled t k (n + 1)) ≡ rowParts (tabled t k n) ++ rowPart (rowAt t (k + n))
+unfolding rowParts
+one-more t k n = last-text rowPart rowParts refl (λ r rs. refl) t k n
+
+pub parts-none : (t : Table) (k : ℕ) {at : ℕ} {l : List ℕ} → PartsPut t k 0 at l at l
+unfolding rowParts tabled
+parts-none t k = record { wrote = record { past = omega arith; holds = refl }; few = omega arith }
+
+module _ {t : Table} {k i at next : ℕ} {l out : List ℕ} (w : PartsPut t k i at l next out) {r : Row} (h : RowOf t (k + i) r) where
+  pub part-room : {n : ℕ} → PartsFit at n l → i < n → Room (rowPart r) next out
+  part-room f g = record { room = omega (arith, w .few, f .fits, g, part-length (h .held), wrote-kept (w .wrote)) }
+
+  pub parts-again : {end : ℕ} {after : List ℕ} → Wrote (rowPart r) next out end after → PartsPut t k (i + 1) at l end after
+  parts-again {end} {after} x = record {
+    wrote = subst (λ (v : List ℕ). Wrote v at l end after) (ap (λ (q : Row). rowParts (tabled t k i) ++ rowPart q) (h .same) ∙ sym (one-more t k i)) (wrote-append (w .wrote) x);
+    few = omega (arith, w .few, x .past, part-length (h .held));
+  }
+
+pub parts-all : {t : Table} {k n i at next : ℕ} {l out : List ℕ} → n ≤ i → (i ≤ n) × PartsPut t k i at l next out → PartsPut t k n at l next out
+parts-all {t} {k} {n} {i} {at} {next} {l} {out} h w = let e : i ≡ n = omega (arith, h, w .0) in subst (λ (i : ℕ). PartsPut t k i at l next out) e (w .1)

@@ -1,19 +1,25 @@
 ghost use mathlib.Core.Path.{_≡_};
-ghost use mathlib.Core.List.{_∷_};
+ghost use mathlib.Core.List.{[], _∷_, map};
 ghost use Prim.Native.Nat.{_+_, _*_, _≤_};
 ghost use lib.ListN.{length};
 ghost use lib.IntN.{pos};
-ghost use Rattle.format.specs.Desk.{decimal};
+ghost use Rattle.reading.specs.Reading.{refusal};
+ghost use Rattle.format.specs.Desk.{decimal, printed};
+ghost use Rattle.format.specs.Message.{refused, measure, readMessage, readFrame};
 ghost use Rattle.integer.specs.Writes.{Room, Wrote};
-ghost use Rattle.format.specs.Message.{ok, refused};
-ghost use Rattle.measure.specs.Entries.{answerOf};
-ghost use Rattle.answers.specs.Cases.{Told, bad, answerText, measureText, fieldOf, kindText, caseText};
-ghost use Rattle.answers.specs.Fields.{FieldRead};
+ghost use Rattle.text.specs.Text.{others};
+ghost use Rattle.fill.specs.Columns.{columns, Roomy};
+ghost use Rattle.listing.specs.Listing.{Listed};
+ghost use Rattle.answers.specs.Cases.{spaced, rowPart, bad, accepted, refusedBy, reply, measured, messageRows, frameRows, slash, deskText, lent, aloneText, octetsReply, caseReply};
+ghost use Rattle.answers.specs.Fields.{FieldRead, CaseRead};
+ghost use Rattle.answers.specs.Replies.{Lent, Begins, PartsFit, PartsPut, SlashesPut};
+use format::Row;
+use frame::Framed;
 use measure::Measured;
 use reading::Refusal;
 use text::Line;
 
-// ---- Answers ----
+// ---- Numbers ----
 
 // Writes a blank and a number from a place on.
 fn put_count(out: &mut [u8], at: usize, n: u64) -> usize
@@ -24,52 +30,139 @@ fn put_count(out: &mut [u8], at: usize, n: u64) -> usize
     text::put_digits(out, at + 1, n)
 }
 
-// Writes the line of a case that is malformed, or of a kind that is not answered.
+// Writes numbers from a place on, a blank before each.
+fn put_spaced(out: &mut [u8], at: usize, values: &[i64]) -> usize
+    requires { ⌜ Room (spaced (now values)) at (now out) ⌝ }
+    ensures { λ r. ⌜ Wrote (spaced (now (values .entry))) at (now (out .entry)) r (now (out .exit)) ⌝ }
+{
+    let mut next = at;
+    let mut i = 0;
+    while i < values.len() {
+        out[next] = b' ';
+        next = text::put_number(out, next + 1, values[i]);
+        i += 1;
+    }
+    next
+}
+
+// ---- What an answer begins with ----
+
+// Writes the answer to a case that is malformed, or of no kind that is answered.
 fn put_bad(out: &mut [u8], at: usize) -> usize
-    requires { ⌜ at + 64 ≤ length (now out) ⌝ }
-    ensures { λ r. ⌜ Told bad at (now (out .entry)) r (now (out .exit)) ⌝ }
+    requires { ⌜ at + 32768 ≤ length (now out) ⌝ }
+    ensures { λ r. ⌜ Listed bad at (now (out .entry)) r (now (out .exit)) ⌝ }
 {
     out[at] = b'b';
     out[at + 1] = b'a';
     out[at + 2] = b'd';
-    out[at + 3] = b'\n';
-    at + 4
+    at + 3
 }
 
-// Writes the line of a result.
+// Writes the beginning of an answer with a count.
 fn put_ok(out: &mut [u8], at: usize, n: u64) -> usize
-    requires { ⌜ Room (answerText (ok n)) at (now out) ⌝ }
-    ensures { λ r. ⌜ Wrote (answerText (ok n)) at (now (out .entry)) r (now (out .exit)) ⌝ }
+    requires { ⌜ at + 32768 ≤ length (now out) ⌝ }
+    ensures { λ r. ⌜ Listed (accepted (pos n ∷ [])) at (now (out .entry)) r (now (out .exit)) ⌝ }
 {
     out[at] = b'o';
     out[at + 1] = b'k';
-    let end = put_count(out, at + 2, n);
-    out[end] = b'\n';
-    end + 1
+    put_count(out, at + 2, n)
 }
 
-// Writes the line of a refusal, in input 1.
+// Writes the beginning of the answer to a frame: its conversation number and its count of rows.
+fn put_framed(out: &mut [u8], at: usize, conversation: i32, rows: usize) -> usize
+    requires { ⌜ at + 32768 ≤ length (now out) ⌝ }
+    ensures { λ r. ⌜ Listed (accepted (conversation ∷ pos rows ∷ [])) at (now (out .entry)) r (now (out .exit)) ⌝ }
+{
+    out[at] = b'o';
+    out[at + 1] = b'k';
+    out[at + 2] = b' ';
+    let next = text::put_number(out, at + 3, conversation as i64);
+    put_count(out, next, rows as u64)
+}
+
+// Writes a refusal, in input 1.
 fn put_no(out: &mut [u8], at: usize, r: Refusal) -> usize
-    requires { ⌜ Room (answerText (refused r)) at (now out) ⌝ }
-    ensures { λ n. ⌜ Wrote (answerText (refused r)) at (now (out .entry)) n (now (out .exit)) ⌝ }
+    requires { ⌜ at + 32768 ≤ length (now out) ⌝ }
+    ensures { λ n. ⌜ Listed (refusedBy r) at (now (out .entry)) n (now (out .exit)) ⌝ }
 {
     out[at] = b'n';
     out[at + 1] = b'o';
     let place = put_count(out, at + 2, r.number as u64);
     let input = put_count(out, place, r.place as u64);
-    let end = put_count(out, input, 1);
-    out[end] = b'\n';
-    end + 1
+    put_count(out, input, 1)
 }
 
-fn put_measured(out: &mut [u8], at: usize, m: Measured) -> usize
-    requires { ⌜ at + 64 ≤ length (now out) ⌝ }
-    ensures { λ r. ⌜ Told (answerText (answerOf m)) at (now (out .entry)) r (now (out .exit)) ⌝ }
+// ---- Rows ----
+
+// A row's ten numbers.
+fn numbers_of(r: Row) -> [i64; 10]
+    ensures { λ l. ⌜ l ≡ r .ty ∷ others r ⌝ }
 {
-    match m {
-        Measured::Amount(n) => put_ok(out, at, n as u64),
-        Measured::Refused(r) => put_no(out, at, r),
+    [
+        r.ty as i64,
+        r.own as i64,
+        r.label as i64,
+        r.number,
+        r.first as i64,
+        r.second as i64,
+        r.place as i64,
+        r.below as i64,
+        r.start as i64,
+        r.end as i64,
+    ]
+}
+
+// Writes a bar and a row's ten numbers from a place on.
+fn put_row(out: &mut [u8], at: usize, r: Row) -> usize
+    requires { ⌜ Room (rowPart r) at (now out) ⌝ }
+    ensures { λ n. ⌜ Wrote (rowPart r) at (now (out .entry)) n (now (out .exit)) ⌝ }
+{
+    out[at] = b' ';
+    out[at + 1] = b'|';
+    let values = numbers_of(r);
+    put_spaced(out, at + 2, &values)
+}
+
+// Writes the parts of n rows of ten columns, from the row at k on, from a place on.
+pub fn put_rows(
+    ty: &[i32],
+    own: &[u8],
+    label: &[u32],
+    number: &[i64],
+    first: &[i32],
+    second: &[i32],
+    place: &[u32],
+    below: &[u32],
+    start: &[u32],
+    end: &[u32],
+    k: usize,
+    n: usize,
+    out: &mut [u8],
+    at: usize,
+) -> usize
+    requires { ⌜ Roomy (k + n) (columns (now ty) (now own) (now label) (now number) (now first) (now second) (now place) (now below) (now start) (now end)) × PartsFit at n (now out) ⌝ }
+    ensures { λ r. ⌜ PartsPut (columns (now (ty .entry)) (now (own .entry)) (now (label .entry)) (now (number .entry)) (now (first .entry)) (now (second .entry)) (now (place .entry)) (now (below .entry)) (now (start .entry)) (now (end .entry))) k n at (now (out .entry)) r (now (out .exit)) ⌝ }
+{
+    let mut next = at;
+    let mut i = 0;
+    while i < n {
+        let row = records::row_at(
+            ty,
+            own,
+            label,
+            number,
+            first,
+            second,
+            place,
+            below,
+            start,
+            end,
+            k + i,
+        );
+        next = put_row(out, next, row);
+        i += 1;
     }
+    next
 }
 
 // ---- Cases ----
@@ -98,69 +191,298 @@ fn field_octets(field: &[u8], work: &mut [u8]) -> Line
     Line::Octets(text::put_octets(work, field))
 }
 
-// Measuring: the field's octets go into `work`.
-fn answer_measure(field: &[u8], work: &mut [u8], out: &mut [u8], at: usize) -> usize
-    requires { ⌜ (length (now field) ≤ 2 * length (now work)) × (at + 64 ≤ length (now out)) ⌝ }
-    ensures { λ r. ⌜ Told (measureText (fieldOf (now (field .entry)))) at (now (out .entry)) r (now (out .exit)) ⌝ }
+// What an answer begins with is written up to `end`; so many rows of the columns follow, and a line feed.
+pub struct Begun {
+    pub end: usize,
+    pub rows: usize,
+}
+
+// Measuring the first value.
+fn begin_measure(src: &[u8], out: &mut [u8], at: usize) -> usize
+    requires { ⌜ at + 32768 ≤ length (now out) ⌝ }
+    ensures { λ r. ⌜ Listed (reply measured (measure (now (src .entry))) .head) at (now (out .entry)) r (now (out .exit)) ⌝ }
 {
-    match field_octets(field, work) {
-        Line::Not => put_bad(out, at),
-        Line::Octets(n) => {
-            let m = measure::measure(&work[..n]);
-            put_measured(out, at, m)
-        }
+    match measure::measure(src) {
+        Measured::Amount(n) => put_ok(out, at, n as u64),
+        Measured::Refused(r) => put_no(out, at, r),
     }
 }
 
-// Answers a case by its kind.
-fn answer_kind(kind: u8, rest: &[u8], work: &mut [u8], out: &mut [u8], at: usize) -> usize
-    requires { ⌜ (length (now rest) ≤ 2 * length (now work)) × (at + 64 ≤ length (now out)) ⌝ }
-    ensures { λ r. ⌜ Told (kindText kind (now (rest .entry))) at (now (out .entry)) r (now (out .exit)) ⌝ }
+// Reading a message into the columns.
+fn begin_message(
+    src: &[u8],
+    ty: &mut [i32],
+    own: &mut [u8],
+    label: &mut [u32],
+    number: &mut [i64],
+    first: &mut [i32],
+    second: &mut [i32],
+    place: &mut [u32],
+    below: &mut [u32],
+    start: &mut [u32],
+    end: &mut [u32],
+    out: &mut [u8],
+    at: usize,
+) -> Begun
+    requires { ⌜ Lent (columns (now ty) (now own) (now label) (now number) (now first) (now second) (now place) (now below) (now start) (now end)) × (at + 32768 ≤ length (now out)) ⌝ }
+    ensures { λ r. ⌜ Begins (reply messageRows (readMessage lent (now (src .entry)))) at (now (out .entry)) r (now (out .exit)) (columns (now (ty .exit)) (now (own .exit)) (now (label .exit)) (now (number .exit)) (now (first .exit)) (now (second .exit)) (now (place .exit)) (now (below .exit)) (now (start .exit)) (now (end .exit))) ⌝ }
+{
+    match message::read_message(
+        src,
+        ty,
+        own,
+        label,
+        number,
+        first,
+        second,
+        place,
+        below,
+        start,
+        end,
+    ) {
+        Measured::Refused(r) => Begun {
+            end: put_no(out, at, r),
+            rows: 0,
+        },
+        Measured::Amount(n) => Begun {
+            end: put_ok(out, at, n as u64),
+            rows: n,
+        },
+    }
+}
+
+// Reading a frame into the columns.
+fn begin_frame(
+    src: &[u8],
+    ty: &mut [i32],
+    own: &mut [u8],
+    label: &mut [u32],
+    number: &mut [i64],
+    first: &mut [i32],
+    second: &mut [i32],
+    place: &mut [u32],
+    below: &mut [u32],
+    start: &mut [u32],
+    end: &mut [u32],
+    out: &mut [u8],
+    at: usize,
+) -> Begun
+    requires { ⌜ Lent (columns (now ty) (now own) (now label) (now number) (now first) (now second) (now place) (now below) (now start) (now end)) × (at + 32768 ≤ length (now out)) ⌝ }
+    ensures { λ r. ⌜ Begins (reply frameRows (readFrame lent (now (src .entry)))) at (now (out .entry)) r (now (out .exit)) (columns (now (ty .exit)) (now (own .exit)) (now (label .exit)) (now (number .exit)) (now (first .exit)) (now (second .exit)) (now (place .exit)) (now (below .exit)) (now (start .exit)) (now (end .exit))) ⌝ }
+{
+    match frame::read_frame(
+        src,
+        ty,
+        own,
+        label,
+        number,
+        first,
+        second,
+        place,
+        below,
+        start,
+        end,
+    ) {
+        Framed::Refused(r) => Begun {
+            end: put_no(out, at, r),
+            rows: 0,
+        },
+        Framed::Rows(_, n, conversation) => Begun {
+            end: put_framed(out, at, conversation, n),
+            rows: n,
+        },
+    }
+}
+
+// Writes what the desk prints for what is no line.
+fn put_no_line(out: &mut [u8], at: usize) -> usize
+    requires { ⌜ at + 32768 ≤ length (now out) ⌝ }
+    ensures { λ r. ⌜ Listed (printed (refused (refusal 17 0))) at (now (out .entry)) r (now (out .exit)) ⌝ }
+{
+    text::put_refused(
+        out,
+        at,
+        Refusal {
+            place: 0,
+            number: 17,
+        },
+    )
+}
+
+// Writes what the desk prints for octets that are a line with its line feed.
+fn put_desk(src: &[u8], out: &mut [u8], at: usize) -> usize
+    requires { ⌜ at + 32768 ≤ length (now out) ⌝ }
+    ensures { λ r. ⌜ Listed (deskText (now (src .entry))) at (now (out .entry)) r (now (out .exit)) ⌝ }
+{
+    let n = src.len();
+    if n == 0 {
+        return put_no_line(out, at);
+    }
+    if src[n - 1] != b'\n' {
+        return put_no_line(out, at);
+    }
+    listing::list_line(&src[..n - 1], out, at)
+}
+
+fn slash(b: u8) -> u8
+    ensures { λ r. ⌜ r ≡ slash b ⌝ }
+{
+    if b == b'\n' {
+        return b'/';
+    }
+    b
+}
+
+// Writes a slash for each line feed of what was written.
+fn put_slashes(out: &mut [u8], at: usize, end: usize)
+    requires { ⌜ (at ≤ end) × (end ≤ length (now out)) ⌝ }
+    ensures { λ r. ⌜ SlashesPut at end (now (out .entry)) (now (out .exit)) ⌝ }
+{
+    let mut i = at;
+    while i < end {
+        out[i] = slash(out[i]);
+        i += 1;
+    }
+}
+
+// The desk's text, in one line.
+fn begin_desk(src: &[u8], out: &mut [u8], at: usize) -> usize
+    requires { ⌜ at + 32768 ≤ length (now out) ⌝ }
+    ensures { λ r. ⌜ Listed (map slash (deskText (now (src .entry)))) at (now (out .entry)) r (now (out .exit)) ⌝ }
+{
+    let end = put_desk(src, out, at);
+    put_slashes(out, at, end);
+    end
+}
+
+// The answer to a case that has no rows, by its kind.
+fn begin_alone(kind: u8, src: &[u8], out: &mut [u8], at: usize) -> usize
+    requires { ⌜ at + 32768 ≤ length (now out) ⌝ }
+    ensures { λ r. ⌜ Listed (aloneText kind (now (src .entry))) at (now (out .entry)) r (now (out .exit)) ⌝ }
 {
     if kind == b'L' {
-        return answer_measure(rest, work, out, at);
+        return begin_measure(src, out, at);
+    }
+    if kind == b'D' {
+        return begin_desk(src, out, at);
     }
     put_bad(out, at)
 }
 
-// Answers a case, given without its line feed: writes the line of its answer from a place on, and gives the place past it.
-pub fn answer_line(line: &[u8], work: &mut [u8], out: &mut [u8], at: usize) -> usize
-    requires { ⌜ (length (now line) ≤ 2 * length (now work)) × (at + 64 ≤ length (now out)) ⌝ }
-    ensures { λ r. ⌜ Told (caseText (now (line .entry))) at (now (out .entry)) r (now (out .exit)) ⌝ }
+// The answer to a case with a field of octets, by its kind.
+fn begin_octets(
+    kind: u8,
+    src: &[u8],
+    ty: &mut [i32],
+    own: &mut [u8],
+    label: &mut [u32],
+    number: &mut [i64],
+    first: &mut [i32],
+    second: &mut [i32],
+    place: &mut [u32],
+    below: &mut [u32],
+    start: &mut [u32],
+    end: &mut [u32],
+    out: &mut [u8],
+    at: usize,
+) -> Begun
+    requires { ⌜ Lent (columns (now ty) (now own) (now label) (now number) (now first) (now second) (now place) (now below) (now start) (now end)) × (at + 32768 ≤ length (now out)) ⌝ }
+    ensures { λ r. ⌜ Begins (octetsReply kind (now (src .entry))) at (now (out .entry)) r (now (out .exit)) (columns (now (ty .exit)) (now (own .exit)) (now (label .exit)) (now (number .exit)) (now (first .exit)) (now (second .exit)) (now (place .exit)) (now (below .exit)) (now (start .exit)) (now (end .exit))) ⌝ }
+{
+    if kind == b'M' {
+        return begin_message(
+            src,
+            ty,
+            own,
+            label,
+            number,
+            first,
+            second,
+            place,
+            below,
+            start,
+            end,
+            out,
+            at,
+        );
+    }
+    if kind == b'F' {
+        return begin_frame(
+            src,
+            ty,
+            own,
+            label,
+            number,
+            first,
+            second,
+            place,
+            below,
+            start,
+            end,
+            out,
+            at,
+        );
+    }
+    Begun {
+        end: begin_alone(kind, src, out, at),
+        rows: 0,
+    }
+}
+
+// Reads the field of a case: writes its octets at the front.
+fn case_octets(line: &[u8], work: &mut [u8]) -> Line
+    requires { ⌜ length (now line) ≤ 2 * length (now work) ⌝ }
+    ensures { λ r. ⌜ CaseRead (now (line .entry)) r (now (work .exit)) ⌝ }
 {
     if line.len() < 2 {
-        return put_bad(out, at);
+        return Line::Not;
     }
     if line[1] != b' ' {
-        return put_bad(out, at);
+        return Line::Not;
     }
-    let kind = line[0];
-    answer_kind(kind, &line[2..], work, out, at)
+    field_octets(&line[2..], work)
 }
 
-// ---- Runs of lines ----
-
-// How many octets of the lines are answered, and how many are written.
-pub struct Progress {
-    pub used: usize,
-    pub written: usize,
-}
-
-// Answers whole lines from the front while there is room.
-pub fn answer_lines(src: &[u8], work: &mut [u8], out: &mut [u8]) -> Progress
-    requires { ⌜ length (now src) ≤ 2 * length (now work) ⌝ }
-    ensures { λ r. ⌜ (r .used ≤ length (now (src .entry))) × (r .written ≤ length (now (out .entry))) ⌝ }
+// Answers a case, given without its line feed: writes what the answer begins with from a place on. The octets of its field go into `work`.
+pub fn begin_line(
+    line: &[u8],
+    work: &mut [u8],
+    ty: &mut [i32],
+    own: &mut [u8],
+    label: &mut [u32],
+    number: &mut [i64],
+    first: &mut [i32],
+    second: &mut [i32],
+    place: &mut [u32],
+    below: &mut [u32],
+    start: &mut [u32],
+    end: &mut [u32],
+    out: &mut [u8],
+    at: usize,
+) -> Begun
+    requires { ⌜ (length (now line) ≤ 2 * length (now work)) × Lent (columns (now ty) (now own) (now label) (now number) (now first) (now second) (now place) (now below) (now start) (now end)) × (at + 32768 ≤ length (now out)) ⌝ }
+    ensures { λ r. ⌜ Begins (caseReply (now (line .entry))) at (now (out .entry)) r (now (out .exit)) (columns (now (ty .exit)) (now (own .exit)) (now (label .exit)) (now (number .exit)) (now (first .exit)) (now (second .exit)) (now (place .exit)) (now (below .exit)) (now (start .exit)) (now (end .exit))) ⌝ }
 {
-    let n = src.len();
-    let mut used = 0;
-    let mut written = 0;
-    while 64 <= out.len() - written {
-        let end = bytes::scan::find(src, used, n, b'\n');
-        if end == n {
-            break;
-        }
-        written = answer_line(&src[used..end], work, out, written);
-        used = end + 1;
+    match case_octets(line, work) {
+        Line::Not => Begun {
+            end: put_bad(out, at),
+            rows: 0,
+        },
+        Line::Octets(n) => begin_octets(
+            line[0],
+            &work[..n],
+            ty,
+            own,
+            label,
+            number,
+            first,
+            second,
+            place,
+            below,
+            start,
+            end,
+            out,
+            at,
+        ),
     }
-    Progress { used, written }
 }

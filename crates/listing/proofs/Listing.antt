@@ -1,7 +1,7 @@
 -- The lines of rows, one after another; and the text for a frame and for a line.
 use mathlib.Core.Path.{_≡_, refl, sym, ap, subst, _∙_}
 use mathlib.Core.Bool.{true, false}
-use mathlib.Core.List.{List, [], _∷_, _++_, append-assoc, append-nil}
+use mathlib.Core.List.{List, [], _∷_, _++_}
 use Prim.Native.Nat.{ℕ, zero, suc, _+_, _*_, _^_, _≤_, _<_}
 use native.Mathlib.Omega.{arith}
 use lib.ListN.{length, take}
@@ -28,27 +28,14 @@ use Rattle.text.proofs.Digits.{line-most}
 use Rattle.text.proofs.Writes.{wrote-front, wrote-append, wrote-kept}
 use Rattle.text.proofs.Lengths.{row-length, accepted-length, refused-length, accepted-first}
 use Rattle.records.specs.Records.{RowOf}
-use Rattle.records.proofs.Records.{filled-rows, filled-room}
+use Rattle.records.proofs.Records.{filled-rows, filled-room, last-text}
 use Rattle.listing.specs.Listing.{Fits, RowsListed, Listed}
 
 -- ---- rows one after another
 
-rows-text-append : (a b : List Row) → rowsText (a ++ b) ≡ rowsText a ++ rowsText b
+one-more : (t : Table) (n : ℕ) → rowsText (tabled t 0 (n + 1)) ≡ rowsText (tabled t 0 n) ++ rowText (rowAt t n)
 unfolding rowsText
-rows-text-append [] b = refl
-rows-text-append (r ∷ a) b = ap (λ (l : List ℕ). rowText r ++ l) (rows-text-append a b) ∙ sym (append-assoc (rowText r) (rowsText a) (rowsText b))
-
-tabled-last : (t : Table) (i n : ℕ) → tabled t i (suc n) ≡ tabled t i n ++ (rowAt t (i + n) ∷ [])
-unfolding tabled
-tabled-last t i zero = let e : i + 0 ≡ i = omega arith in rw e
-tabled-last t i (suc n) = let e : i + suc n ≡ suc i + n = omega arith in rw e (ap (λ (l : List Row). rowAt t i ∷ l) (tabled-last t (suc i) n))
-
-last-text : (t : Table) (n : ℕ) → rowsText (tabled t 0 (n + 1)) ≡ rowsText (tabled t 0 n) ++ rowText (rowAt t n)
-unfolding rowsText
-last-text t n =
-    let e : n + 1 ≡ suc n = omega arith in
-    let z : 0 + n ≡ n = omega arith in
-    rw e (ap rowsText (tabled-last t 0 n) ∙ ap (λ (k : ℕ). rowsText (tabled t 0 n ++ (rowAt t k ∷ []))) z ∙ rows-text-append (tabled t 0 n) (rowAt t n ∷ []) ∙ ap (λ (l : List ℕ). rowsText (tabled t 0 n) ++ l) (append-nil (rowText (rowAt t n))))
+one-more t n = let z : 0 + n ≡ n = omega arith in last-text rowText rowsText refl (λ r rs. refl) t 0 n ∙ ap (λ (k : ℕ). rowsText (tabled t 0 n) ++ rowText (rowAt t k)) z
 
 pub rowed-none : (t : Table) {at : ℕ} {l : List ℕ} → RowsListed t at l 0 at l
 unfolding rowsText tabled
@@ -60,27 +47,12 @@ module _ {t : Table} {at : ℕ} {l : List ℕ} {k next : ℕ} {out : List ℕ} (
 
   pub rowed-again : {end : ℕ} {after : List ℕ} → Wrote (rowText r) next out end after → RowsListed t at l (k + 1) end after
   rowed-again {end} {after} x = record {
-    wrote = subst (λ (v : List ℕ). Wrote v at l end after) (ap (λ (q : Row). rowsText (tabled t 0 k) ++ rowText q) (h .same) ∙ sym (last-text t k)) (wrote-append (w .wrote) x);
+    wrote = subst (λ (v : List ℕ). Wrote v at l end after) (ap (λ (q : Row). rowsText (tabled t 0 k) ++ rowText q) (h .same) ∙ sym (one-more t k)) (wrote-append (w .wrote) x);
     few = omega (arith, w .few, x .past, row-length (h .held));
   }
 
 pub rowed-all : {t : Table} {at n k next : ℕ} {l out : List ℕ} → n ≤ k → (k ≤ n) × RowsListed t at l k next out → RowsListed t at l n next out
 rowed-all {t} {at} {n} {k} {next} {l} {out} h w = let e : k ≡ n = omega (arith, h, w .0) in subst (λ (k : ℕ). RowsListed t at l k next out) e (w .1)
-
--- a row below the limit
-pub row-room : {n k : ℕ} {t : Table} → Roomy n t → k < n → Roomy (k + 1) t
-row-room h g = record {
-  ty-room = omega (arith, h .ty-room);
-  own-room = omega (arith, h .own-room);
-  label-room = omega (arith, h .label-room);
-  number-room = omega (arith, h .number-room);
-  first-room = omega (arith, h .first-room);
-  second-room = omega (arith, h .second-room);
-  place-room = omega (arith, h .place-room);
-  below-room = omega (arith, h .below-room);
-  start-room = omega (arith, h .start-room);
-  end-room = omega (arith, h .end-room);
-}
 
 -- ---- the text for a frame
 
@@ -90,55 +62,63 @@ room-28 {q} h g k = record { room = omega (arith, refused-length q h g, k) }
 pub room-36 : {c z : ℤ} {n at : ℕ} {l : List ℕ} → z ≡ c → mag c < 2 ^ 31 → n < 2 ^ 64 → at + 32768 ≤ length l → Room (accepted z n) at l
 room-36 {c} {z} {n} e h g k = record { room = omega (arith, accepted-length z n (subst (λ (c : ℤ). mag c < 2 ^ 31) (sym e) h) g, k) }
 
-module _ (o : List ℕ) {t t' : Table} {x : Framed} (h : FrameRead o t x t') (s : shortest t ≡ 256) where
-  by-256 : answerOf x ≡ then (readFrame 256 o) told
-  by-256 = subst (λ (k : ℕ). answerOf x ≡ then (readFrame k o) told) s (h .says)
+-- what a reading into columns gives, by the rows that they are lent for
+module _ (o : List ℕ) {t t' : Table} {x : Framed} (h : FrameRead o t x t') {lim : ℕ} (s : shortest t ≡ lim) where
+  by-limit : answerOf x ≡ then (readFrame lim o) told
+  by-limit = subst (λ (k : ℕ). answerOf x ≡ then (readFrame k o) told) s (h .says)
 
-  refused-by : {q : Refusal} → x ≡ Refused q → readFrame 256 o ≡ refused q
-  refused-by {q} e = by (readFrame 256 o) (ap answerOf (sym e) ∙ by-256)
+  pub frame-refused : {q : Refusal} → x ≡ Refused q → readFrame lim o ≡ refused q
+  frame-refused {q} e = by (readFrame lim o) (ap answerOf (sym e) ∙ by-limit)
     where
       by : (y : Answer (ℤ × ℕ × List Row)) → refused q ≡ then y told → y ≡ refused q
       by (ok a) k = let z : _≡_ {A = ℕ} 0 1 = cc in absurd (omega arith)
       by (refused p) k = ap refused (sym (same-refused k))
 
-  pub listed-refused : {q : Refusal} {at next : ℕ} {l out : List ℕ} → x ≡ Refused q → q .number < 2 ^ 8 → q .place < 2 ^ 64 → Wrote (printed (refused q)) at l next out → Listed (printed (readFrame 256 o)) at l next out
-  listed-refused {q} {at} {next} {l} {out} e j k w =
-      subst (λ (y : Answer (ℤ × ℕ × List Row)). Listed (printed y) at l next out) (sym (refused-by e)) (record { wrote = w; short = omega (arith, refused-length q j k) })
-
   module _ {from : FramePlace} {n : ℕ} {c : ℤ} (e : x ≡ Rows from n c) where
-    given : (a : ℤ × ℕ × List Row) × (readFrame 256 o ≡ ok a) × (c ≡ a .0) × (n ≡ length (a .2))
-    given = by (readFrame 256 o) refl (ap answerOf (sym e) ∙ by-256)
+    pub frame-given : (a : ℤ × ℕ × List Row) × (readFrame lim o ≡ ok a) × (c ≡ a .0) × (n ≡ length (a .2))
+    frame-given = by (readFrame lim o) refl (ap answerOf (sym e) ∙ by-limit)
       where
-        by : (y : Answer (ℤ × ℕ × List Row)) → readFrame 256 o ≡ y → ok (c, from .0, n) ≡ then y told → (a : ℤ × ℕ × List Row) × (readFrame 256 o ≡ ok a) × (c ≡ a .0) × (n ≡ length (a .2))
+        by : (y : Answer (ℤ × ℕ × List Row)) → readFrame lim o ≡ y → ok (c, from .0, n) ≡ then y told → (a : ℤ × ℕ × List Row) × (readFrame lim o ≡ ok a) × (c ≡ a .0) × (n ≡ length (a .2))
         by (ok a) k h = let w = same-ok h in (a, k, ap (λ (a : ℤ × ℕ × ℕ). a .0) w, ap (λ (a : ℤ × ℕ × ℕ). a .2) w)
         by (refused p) k h = let z : _≡_ {A = ℕ} 0 1 = cc in absurd (omega arith)
 
     -- the columns hold the rows
-    filled : Filled 0 (given .0 .2) t t'
-    filled = subst (λ (y : Answer (List Row)). Holds y t t') (ap (λ (k : ℕ). then (readFrame k o) rowsOf) s ∙ ap (λ (y : Answer (ℤ × ℕ × List Row)). then y rowsOf) (given .1)) (h .holds)
+    filled : Filled 0 (frame-given .0 .2) t t'
+    filled = subst (λ (y : Answer (List Row)). Holds y t t') (ap (λ (k : ℕ). then (readFrame k o) rowsOf) s ∙ ap (λ (y : Answer (ℤ × ℕ × List Row)). then y rowsOf) (frame-given .1)) (h .holds)
 
-    same-rows : tabled t' 0 n ≡ given .0 .2
-    same-rows = ap (tabled t' 0) (given .3) ∙ filled-rows filled
+    pub frame-rows : tabled t' 0 n ≡ frame-given .0 .2
+    frame-rows = ap (tabled t' 0) (frame-given .3) ∙ filled-rows filled
 
-    module _ (b : Octets o) {z : ℤ} (q : z ≡ c) (g : mag c < 2 ^ 31) {at mid : ℕ} {l some : List ℕ} (w : Wrote (accepted z n) at l mid some) where
-      few : n ≤ 256
-      few = omega (arith, given .3, read-frame-exactly 256 o _ _ (given .0 .2) b .0 (given .1) .5)
+    pub frame-room : Roomy n t'
+    frame-room = subst (λ (m : ℕ). Roomy m t') (sym (frame-given .3)) (filled-room filled)
 
-      short : length (accepted z n) ≤ 36
-      short = accepted-length z n (subst (λ (c : ℤ). mag c < 2 ^ 31) (sym q) g) (omega (arith, few))
+module _ (o : List ℕ) {t t' : Table} {x : Framed} (h : FrameRead o t x t') (s : shortest t ≡ 256) where
+  pub listed-refused : {q : Refusal} {at next : ℕ} {l out : List ℕ} → x ≡ Refused q → q .number < 2 ^ 8 → q .place < 2 ^ 64 → Wrote (printed (refused q)) at l next out → Listed (printed (readFrame 256 o)) at l next out
+  listed-refused {q} {at} {next} {l} {out} e j k w =
+      subst (λ (y : Answer (ℤ × ℕ × List Row)). Listed (printed y) at l next out) (sym (frame-refused o h s e)) (record { wrote = w; short = omega (arith, refused-length q j k) })
 
-      pub rows-fit : at + 32768 ≤ length l → Roomy n t' × Fits mid n some
-      rows-fit k = (subst (λ (m : ℕ). Roomy m t') (sym (given .3)) (filled-room filled), record { fits = omega (arith, w .past, short, few, k, wrote-kept w) })
+  module _ {from : FramePlace} {n : ℕ} {c : ℤ} (e : x ≡ Rows from n c) (b : Octets o) {z : ℤ} (q : z ≡ c) (g : mag c < 2 ^ 31) {at mid : ℕ} {l some : List ℕ} (w : Wrote (accepted z n) at l mid some) where
+    abbrev given : (a : ℤ × ℕ × List Row) × (readFrame 256 o ≡ ok a) × (c ≡ a .0) × (n ≡ length (a .2))
+    given = frame-given o h s e
 
-      pub listed-rows : {next : ℕ} {out : List ℕ} → RowsListed t' mid some n next out → Listed (printed (readFrame 256 o)) at l next out
-      listed-rows {next} {out} r =
-          let both = wrote-append w (r .wrote) in
-          let all = subst (λ (v : List ℕ). Listed v at l next out) same (record { wrote = both; short = omega (arith, both .past, w .past, r .few, few, short) }) in
-          subst (λ (y : Answer (ℤ × ℕ × List Row)). Listed (printed y) at l next out) (sym (given .1)) all
-        where
-          same : accepted z n ++ rowsText (tabled t' 0 n) ≡ printed (ok (given .0))
-          same = ap (λ (z : ℤ). accepted z n ++ rowsText (tabled t' 0 n)) (q ∙ given .2) ∙ ap (λ (k : ℕ). accepted (given .0 .0) k ++ rowsText (tabled t' 0 n)) (given .3)
-              ∙ ap (λ (rs : List Row). accepted (given .0 .0) (length (given .0 .2)) ++ rowsText rs) same-rows ∙ sym (accepted-first (given .0))
+    few : n ≤ 256
+    few = omega (arith, given .3, read-frame-exactly 256 o _ _ (given .0 .2) b .0 (given .1) .5)
+
+    short : length (accepted z n) ≤ 36
+    short = accepted-length z n (subst (λ (c : ℤ). mag c < 2 ^ 31) (sym q) g) (omega (arith, few))
+
+    pub rows-fit : at + 32768 ≤ length l → Roomy n t' × Fits mid n some
+    rows-fit k = (frame-room o h s e, record { fits = omega (arith, w .past, short, few, k, wrote-kept w) })
+
+    pub listed-rows : {next : ℕ} {out : List ℕ} → RowsListed t' mid some n next out → Listed (printed (readFrame 256 o)) at l next out
+    listed-rows {next} {out} r =
+        let both = wrote-append w (r .wrote) in
+        let all = subst (λ (v : List ℕ). Listed v at l next out) same (record { wrote = both; short = omega (arith, both .past, w .past, r .few, few, short) }) in
+        subst (λ (y : Answer (ℤ × ℕ × List Row)). Listed (printed y) at l next out) (sym (given .1)) all
+      where
+        same : accepted z n ++ rowsText (tabled t' 0 n) ≡ printed (ok (given .0))
+        same = ap (λ (z : ℤ). accepted z n ++ rowsText (tabled t' 0 n)) (q ∙ given .2) ∙ ap (λ (k : ℕ). accepted (given .0 .0) k ++ rowsText (tabled t' 0 n)) (given .3)
+            ∙ ap (λ (rs : List Row). accepted (given .0 .0) (length (given .0 .2)) ++ rowsText rs) (frame-rows o h s e) ∙ sym (accepted-first (given .0))
 
 -- ---- the text for a line
 

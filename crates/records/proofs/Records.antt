@@ -1,7 +1,7 @@
 -- The rows of ten columns.
 use mathlib.Core.Path.{_≡_, refl, sym, ap, subst, _∙_}
 use mathlib.Core.Bool.{Bool, true, false}
-use mathlib.Core.List.{List, [], _∷_, _++_, map}
+use mathlib.Core.List.{List, [], _∷_, _++_, map, append-assoc, append-nil}
 use Prim.Native.Nat.{ℕ, zero, suc, _+_, _-_, _<_, _≤_}
 use native.Mathlib.Omega.{arith}
 use lib.ListN.{length, getD, drop, length-append, length-map}
@@ -105,6 +105,38 @@ filled-room {rs} {t} f = record {
   end-room = filled-long (λ (r : Row). r .end) rs (t .end) (f .end-filled);
 }
 
+-- a row below the limit
+pub row-room : {n k : ℕ} {t : Table} → Roomy n t → k < n → Roomy (k + 1) t
+row-room h g = record {
+  ty-room = omega (arith, h .ty-room);
+  own-room = omega (arith, h .own-room);
+  label-room = omega (arith, h .label-room);
+  number-room = omega (arith, h .number-room);
+  first-room = omega (arith, h .first-room);
+  second-room = omega (arith, h .second-room);
+  place-room = omega (arith, h .place-room);
+  below-room = omega (arith, h .below-room);
+  start-room = omega (arith, h .start-room);
+  end-room = omega (arith, h .end-room);
+}
+
+-- ---- the texts of rows, one after another
+
+tabled-last : (t : Table) (i n : ℕ) → tabled t i (suc n) ≡ tabled t i n ++ (rowAt t (i + n) ∷ [])
+unfolding tabled
+tabled-last t i zero = let e : i + 0 ≡ i = omega arith in rw e
+tabled-last t i (suc n) = let e : i + suc n ≡ suc i + n = omega arith in rw e (ap (λ (l : List Row). rowAt t i ∷ l) (tabled-last t (suc i) n))
+
+module _ {A : Type 0} (text : Row → List A) (texts : List Row → List A) (none : texts [] ≡ []) (more : (r : Row) (rs : List Row) → texts (r ∷ rs) ≡ text r ++ texts rs) where
+  texts-last : (rs : List Row) (r : Row) → texts (rs ++ (r ∷ [])) ≡ texts rs ++ text r
+  texts-last [] r = more r [] ∙ ap (λ (l : List A). text r ++ l) none ∙ append-nil (text r) ∙ ap (λ (l : List A). l ++ text r) (sym none)
+  texts-last (q ∷ rs) r =
+      more q (rs ++ (r ∷ [])) ∙ ap (λ (l : List A). text q ++ l) (texts-last rs r) ∙ sym (append-assoc (text q) (texts rs) (text r)) ∙ ap (λ (l : List A). l ++ text r) (sym (more q rs))
+
+  -- the rows from i on, and one more
+  pub last-text : (t : Table) (i n : ℕ) → texts (tabled t i (n + 1)) ≡ texts (tabled t i n) ++ text (rowAt t (i + n))
+  last-text t i n = let e : n + 1 ≡ suc n = omega arith in rw e (ap texts (tabled-last t i n) ∙ texts-last (tabled t i n) (rowAt t (i + n)))
+
 -- ---- the first row with a label
 
 -- the first i labels are others
@@ -155,8 +187,8 @@ module _ (t : Table) {n x r : ℕ} (s : n ≡ shortest t) (l : LabelAt (t .label
   no-row h = let e : n - r ≡ 0 = omega (arith, h) in sym (to-row ∙ rw e)
 
 -- a row below the shortest column's length
-pub row-room : {n k : ℕ} (t : Table) → n ≡ shortest t → k < n → Roomy (k + 1) t
-row-room t e h = room-for t (omega (arith, e, h))
+pub shortest-room : {n k : ℕ} (t : Table) → n ≡ shortest t → k < n → Roomy (k + 1) t
+shortest-room t e h = room-for t (omega (arith, e, h))
 
 pub labels-room : {n : ℕ} (t : Table) → n ≡ shortest t → n ≤ length (t .label)
 labels-room {n} t e = room-for {n = n} t (omega (arith, e)) .label-room

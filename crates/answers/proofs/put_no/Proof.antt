@@ -1,8 +1,8 @@
 use mathlib.Core.Path.{refl}
 use native.Mathlib.Omega.{arith}
 use lib.ListN.{length-set}
-use Rattle.text.proofs.Writes.{left-part, left-place, left-within, left-fits, left-one, left-none}
-use Rattle.answers.proofs.Texts.{letters, letters-room, no-parts}
+use Rattle.text.proofs.Writes.{left-part, left-fits, left-none}
+use Rattle.answers.proofs.Texts.{letters, no-parts, no-short, room, listed}
 use borrow.Author.Needs.{needs}
 use Rattle.answers.proofs.put_no.Statement.{statement}
 use Rattle.answers.proofs.put_no.Tie as tie
@@ -17,7 +17,7 @@ add-out c = search needs
 
 -- src/lib.rt:57:5
 slice-write-out-2 : tie.Need-slice-write-out-2
-slice-write-out-2 c = simp length-set (omega (arith, letters-room (no-parts (c .before .args .r)) (c .before .pre)))
+slice-write-out-2 c = simp length-set (omega arith)
 
 -- src/lib.rt:58:32
 add-put-count : tie.Need-add-put-count
@@ -29,31 +29,23 @@ cast-put-count c = search needs
 
 -- src/lib.rt:58:9
 put-count-requires : tie.Need-put-count-requires
-put-count-requires c κs = left-fits (letters (no-parts (c .before .before .before .args .r)) (c .before .before .before .pre)) _ _ refl
+put-count-requires c κs = left-fits (letters (no-parts (c .before .before .before .args .r)) (room (c .before .before .before .args .at) (c .before .before .before .args .out .now) (no-short _ (c .struct-known .given .1 .0 .fits) (c .struct-known .given .0 .fits)) (c .before .before .before .pre))) _ _ refl
 
 -- src/lib.rt:59:9
 put-count-requires-2 : tie.Need-put-count-requires-2
-put-count-requires-2 c κs = left-fits (left-part (letters (no-parts (c .before .before .before .before .before .before .before .args .r)) (c .before .before .before .before .before .before .before .pre)) _ refl (c .before .before .before .put-count .ensures)) _ _ refl
+put-count-requires-2 c κs = left-fits (left-part (letters (no-parts (c .before .before .before .before .before .before .before .args .r)) (room (c .before .before .before .before .before .before .before .args .at) (c .before .before .before .before .before .before .before .args .out .now) (no-short _ (c .before .before .before .before .struct-known .given .1 .0 .fits) (c .before .before .before .before .struct-known .given .0 .fits)) (c .before .before .before .before .before .before .before .pre))) _ refl (c .before .before .before .put-count .ensures)) _ _ refl
 
 -- src/lib.rt:60:9
 put-count-requires-3 : tie.Need-put-count-requires-3
-put-count-requires-3 c κs = left-fits (left-part (left-part (letters (no-parts (c .before .before .before .before .before .before .before .before .before .before .before .args .r)) (c .before .before .before .before .before .before .before .before .before .before .before .pre)) _ refl (c .before .before .before .before .before .before .before .put-count .ensures)) _ refl (c .before .before .before .put-count2 .ensures)) _ _ refl
-
--- src/lib.rt:61:5
-slice-write-out-3 : tie.Need-slice-write-out-3
-slice-write-out-3 c = left-place (left-part (left-part (left-part (letters (no-parts (c .before .before .before .before .before .before .before .before .before .before .before .before .before .before .args .r)) (c .before .before .before .before .before .before .before .before .before .before .before .before .before .before .pre)) _ refl (c .before .before .before .before .before .before .before .before .before .before .put-count .ensures)) _ refl (c .before .before .before .before .before .before .put-count2 .ensures)) _ refl (c .before .before .put-count3 .ensures)) refl
-
--- src/lib.rt:62:5
-add-result : tie.Need-add-result
-add-result c = omega (arith, left-within (left-part (left-part (left-part (letters (no-parts (c .before .before .before .before .before .before .before .before .before .before .before .before .before .before .args .r)) (c .before .before .before .before .before .before .before .before .before .before .before .before .before .before .pre)) _ refl (c .before .before .before .before .before .before .before .before .before .before .put-count .ensures)) _ refl (c .before .before .before .before .before .before .put-count2 .ensures)) _ refl (c .before .before .put-count3 .ensures)) refl)
+put-count-requires-3 c κs = left-fits (left-part (left-part (letters (no-parts (c .before .before .before .before .before .before .before .before .before .before .before .args .r)) (room (c .before .before .before .before .before .before .before .before .before .before .before .args .at) (c .before .before .before .before .before .before .before .before .before .before .before .args .out .now) (no-short _ (c .before .before .before .before .before .before .before .before .struct-known .given .1 .0 .fits) (c .before .before .before .before .before .before .before .before .struct-known .given .0 .fits)) (c .before .before .before .before .before .before .before .before .before .before .before .pre))) _ refl (c .before .before .before .before .before .before .before .put-count .ensures)) _ refl (c .before .before .before .put-count2 .ensures)) _ _ refl
 
 -- src/lib.rt:52:1
 same-length : tie.Need-same-length
-same-length c = left-one (left-part (left-part (left-part (letters (no-parts (c .before .before .before .before .before .before .before .before .before .before .before .before .before .before .args .r)) (c .before .before .before .before .before .before .before .before .before .before .before .before .before .before .pre)) _ refl (c .before .before .before .before .before .before .before .before .before .before .put-count .ensures)) _ refl (c .before .before .before .before .before .before .put-count2 .ensures)) _ refl (c .before .before .put-count3 .ensures)) refl .kept
+same-length c = left-part (left-part (left-part (letters (no-parts (c .before .before .before .before .before .before .before .before .before .before .before .before .before .before .args .r)) (room (c .before .before .before .before .before .before .before .before .before .before .before .before .before .before .args .at) (c .before .before .before .before .before .before .before .before .before .before .before .before .before .before .args .out .now) (no-short _ (c .before .before .before .before .before .before .before .before .before .before .before .struct-known .given .1 .0 .fits) (c .before .before .before .before .before .before .before .before .before .before .before .struct-known .given .0 .fits)) (c .before .before .before .before .before .before .before .before .before .before .before .before .before .before .pre))) _ refl (c .before .before .before .before .before .before .before .before .before .before .put-count .ensures)) _ refl (c .before .before .before .before .before .before .put-count2 .ensures)) _ refl (c .before .before .put-count3 .ensures) .kept
 
 -- src/lib.rt:52:1
 returns : tie.Need-returns
-returns c = left-none (left-one (left-part (left-part (left-part (letters (no-parts (c .before .before .before .before .before .before .before .before .before .before .before .before .before .before .args .r)) (c .before .before .before .before .before .before .before .before .before .before .before .before .before .before .pre)) _ refl (c .before .before .before .before .before .before .before .before .before .before .put-count .ensures)) _ refl (c .before .before .before .before .before .before .put-count2 .ensures)) _ refl (c .before .before .put-count3 .ensures)) refl) refl
+returns c = listed (no-short _ (c .before .before .before .before .before .before .before .before .before .before .before .struct-known .given .1 .0 .fits) (c .before .before .before .before .before .before .before .before .before .before .before .struct-known .given .0 .fits)) (left-none (left-part (left-part (left-part (letters (no-parts (c .before .before .before .before .before .before .before .before .before .before .before .before .before .before .args .r)) (room (c .before .before .before .before .before .before .before .before .before .before .before .before .before .before .args .at) (c .before .before .before .before .before .before .before .before .before .before .before .before .before .before .args .out .now) (no-short _ (c .before .before .before .before .before .before .before .before .before .before .before .struct-known .given .1 .0 .fits) (c .before .before .before .before .before .before .before .before .before .before .before .struct-known .given .0 .fits)) (c .before .before .before .before .before .before .before .before .before .before .before .before .before .before .pre))) _ refl (c .before .before .before .before .before .before .before .before .before .before .put-count .ensures)) _ refl (c .before .before .before .before .before .before .put-count2 .ensures)) _ refl (c .before .before .put-count3 .ensures)) refl)
 
 pub put-no-spec : {M : Type 1} → statement M
 put-no-spec =
@@ -67,7 +59,5 @@ put-no-spec =
     put-count-requires
     put-count-requires-2
     put-count-requires-3
-    slice-write-out-3
-    add-result
     same-length
     returns)

@@ -3,7 +3,8 @@ use native.Mathlib.Omega.{arith}
 use Rattle.text.proofs.Writes.{wrote-kept}
 use Rattle.fill.specs.Columns.{columns}
 use Rattle.listing.specs.Listing.{RowsListed}
-use Rattle.listing.proofs.Listing.{rowed-none, rowed-room, rowed-again, rowed-all, row-room}
+use Rattle.listing.proofs.Listing.{rowed-none, rowed-room, rowed-again, rowed-all}
+use Rattle.records.proofs.Records.{row-room}
 use Rattle.listing.proofs.put_rows.Statement.{statement}
 use Rattle.listing.proofs.put_rows.Tie as tie
 use Rattle.listing.proofs.put_rows.Reads as reads

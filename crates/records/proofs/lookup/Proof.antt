@@ -1,7 +1,7 @@
 use mathlib.Core.Path.{_∙_}
 use Rattle.fill.specs.Columns.{columns}
 use Rattle.message.proofs.Messages.{is-shortest}
-use Rattle.records.proofs.Records.{row-asked, no-row, row-room, labels-room}
+use Rattle.records.proofs.Records.{row-asked, no-row, shortest-room, labels-room}
 use borrow.Author.Needs.{needs}
 use Rattle.records.proofs.lookup.Statement.{statement}
 use Rattle.records.proofs.lookup.Tie as tie
@@ -22,7 +22,7 @@ find-requires c κs = labels-room (columns (c .before .before .before .before .b
 
 -- src/lib.rt:91:13
 row-at-requires : tie.Need-row-at-requires
-row-at-requires c κs = row-room _ (is-shortest _ (c .before .before .least-of .ensures)) (c .if1 .taken)
+row-at-requires c κs = shortest-room _ (is-shortest _ (c .before .before .least-of .ensures)) (c .if1 .taken)
 
 -- src/lib.rt:104:9
 ask-requires : tie.Need-ask-requires
