@@ -1,12 +1,11 @@
 -- What a field tells.
-use mathlib.Core.Path.{_≡_, refl, ap, sym, _∙_}
-use mathlib.Core.Bool.{Bool, true, false, _&&_}
+use mathlib.Core.Path.{_≡_, ap, sym, _∙_}
+use mathlib.Core.Bool.{true, false}
 use mathlib.Core.List.{List, []}
 use Prim.Native.Nat.{ℕ, _-_, _*_, _%_, _<_, _≤_}
 use native.Mathlib.Omega.{arith}
 use lib.ListN.{length, getD, take, drop, length-drop}
 use lib.Seq.{length-sets, take-all}
-use lib.Dec.{leb, eqb}
 use borrow.Author.Tests.{le-leb, lt-leb, lt-ltb, le-ltb, eq-eqb, ne-eqb}
 use Rattle.format.specs.Desk.{allDigits, octetsOf}
 use Rattle.integer.specs.Writes.{Room, Wrote}
@@ -14,7 +13,7 @@ use Rattle.text.proofs.Digits.{octets-length}
 use Rattle.text.proofs.Writes.{wrote-front}
 use Rattle.text.specs.declared.Line.{Line}
 use Rattle.text.specs.declared.Line.the-variants.{Octets, Not}
-use Rattle.answers.specs.Cases.{Field, some, malformed, isPairs, fieldOf, alone, bad, fieldReply, caseReply}
+use Rattle.answers.specs.Cases.{some, malformed, fieldOf, alone, bad, fieldReply, caseReply}
 use Rattle.answers.specs.Fields.{FieldRead, CaseRead}
 
 module _ (l : List ℕ) where

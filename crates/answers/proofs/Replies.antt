@@ -1,13 +1,14 @@
 -- What is read into the columns, and the answer that begins with it.
 use mathlib.Core.Path.{_≡_, refl, sym, ap, subst, _∙_}
-use mathlib.Core.List.{List, [], _∷_, map}
-use Prim.Native.Nat.{ℕ, _≤_}
+use mathlib.Core.List.{List, [], _∷_, _++_, map}
+use Prim.Native.Nat.{ℕ}
 use native.Mathlib.Omega.{arith}
 use lib.ListN.{length}
 use lib.IntN.{ℤ, pos}
 use borrow.Author.Tests.{eq-eqb, ne-eqb}
 use Rattle.reading.specs.declared.Refusal.{Refusal}
 use Rattle.format.specs.declared.Row.{Row}
+use Rattle.format.specs.Desk.{feed}
 use Rattle.format.specs.Message.{Answer, ok, refused, then, measure, readMessage, readFrame}
 use Rattle.format.specs.Writing.{Table, tabled}
 use Rattle.fill.specs.Columns.{Roomy, Filled}
@@ -24,7 +25,7 @@ use Rattle.records.proofs.Records.{filled-rows, filled-room}
 use Rattle.listing.specs.Listing.{Listed}
 use Rattle.listing.proofs.Listing.{frame-refused, frame-given, frame-rows, frame-room}
 use Rattle.answers.specs.declared.Begun.{Begun}
-use Rattle.answers.specs.Cases.{Reply, alone, bad, accepted, refusedBy, reply, measured, messageRows, frameRows, slash, deskText, lent, aloneText, octetsReply}
+use Rattle.answers.specs.Cases.{rowParts, Reply, alone, bad, accepted, refusedBy, reply, measured, messageRows, frameRows, slash, deskText, lent, aloneText, octetsReply, caseReply, caseText}
 use Rattle.answers.specs.Replies.{Lent, Begins}
 
 pub shortest-lent : {t : Table} → Lent t → shortest t ≡ lent
@@ -127,3 +128,9 @@ module _ (k : ℕ) (o : List ℕ) where
   pub octets-alone : (k ≡ 0x4D → ⊥) → (k ≡ 0x46 → ⊥) → octetsReply k o ≡ alone (aloneText k o)
   unfolding octetsReply
   octets-alone n m = rw (ne-eqb k 0x4D n, ne-eqb k 0x46 m)
+
+-- ---- the whole line
+
+-- what the answer begins with, the rows of the columns, and a line feed
+pub whole-line : (line : List ℕ) {at : ℕ} {l : List ℕ} {r : Begun} {out : List ℕ} {t : Table} → Begins (caseReply line) at l r out t → caseText line ≡ caseReply line .head ++ (rowParts (tabled t 0 (r .rows)) ++ feed)
+whole-line line b = ap (λ (rs : List Row). caseReply line .head ++ (rowParts rs ++ feed)) (sym (b .same))

@@ -1,7 +1,7 @@
 -- Answers: their parts, and how long they are at most.
 use mathlib.Core.Path.{_≡_, refl, sym, ap, subst, _∙_}
-use mathlib.Core.List.{List, [], _∷_, _++_, append-nil}
-use Prim.Native.Nat.{ℕ, suc, _+_, _*_, _^_, _<_, _≤_}
+use mathlib.Core.List.{List, [], _∷_, _++_, append-assoc, append-nil}
+use Prim.Native.Nat.{ℕ, zero, suc, _+_, _^_, _<_, _≤_}
 use native.Mathlib.Omega.{arith}
 use native.Mathlib.Numerals.{add-one}
 use lib.ListN.{length, getD, drop, set, length-append, drop-of-length-le}
@@ -147,6 +147,10 @@ one-more : (t : Table) (k n : ℕ) → rowParts (tabled t k (n + 1)) ≡ rowPart
 unfolding rowParts
 one-more t k n = last-text rowPart rowParts refl (λ r rs. refl) t k n
 
+parts-of-none : (t : Table) (i : ℕ) → rowParts (tabled t i 0) ≡ []
+unfolding rowParts tabled
+parts-of-none t i = refl
+
 pub parts-none : (t : Table) (k : ℕ) {at : ℕ} {l : List ℕ} → PartsPut t k 0 at l at l
 unfolding rowParts tabled
 parts-none t k = record { wrote = record { past = omega arith; holds = refl }; few = omega arith }
@@ -163,3 +167,15 @@ module _ {t : Table} {k i at next : ℕ} {l out : List ℕ} (w : PartsPut t k i 
 
 pub parts-all : {t : Table} {k n i at next : ℕ} {l out : List ℕ} → n ≤ i → (i ≤ n) × PartsPut t k i at l next out → PartsPut t k n at l next out
 parts-all {t} {k} {n} {i} {at} {next} {l} {out} h w = let e : i ≡ n = omega (arith, h, w .0) in subst (λ (i : ℕ). PartsPut t k i at l next out) e (w .1)
+
+-- the parts of some rows, and of those after them
+pub parts-joined : (t : Table) (i k m : ℕ) → rowParts (tabled t i (k + m)) ≡ rowParts (tabled t i k) ++ rowParts (tabled t (i + k) m)
+parts-joined t i k zero = let e : k + 0 ≡ k = omega arith in ap (λ (n : ℕ). rowParts (tabled t i n)) e ∙ sym (append-nil (rowParts (tabled t i k))) ∙ ap (λ (v : List ℕ). rowParts (tabled t i k) ++ v) (sym (parts-of-none t (i + k)))
+parts-joined t i k (suc m) =
+    let e : k + suc m ≡ (k + m) + 1 = omega arith in
+    let f : suc m ≡ m + 1 = omega arith in
+    let g : i + (k + m) ≡ (i + k) + m = omega arith in
+    ap (λ (n : ℕ). rowParts (tabled t i n)) e ∙ one-more t i (k + m) ∙ ap (λ (v : List ℕ). v ++ rowPart (rowAt t (i + (k + m)))) (parts-joined t i k m)
+    ∙ append-assoc (rowParts (tabled t i k)) (rowParts (tabled t (i + k) m)) (rowPart (rowAt t (i + (k + m))))
+    ∙ ap (λ (j : ℕ). rowParts (tabled t i k) ++ (rowParts (tabled t (i + k) m) ++ rowPart (rowAt t j))) g
+    ∙ ap (λ (v : List ℕ). rowParts (tabled t i k) ++ v) (sym (one-more t (i + k) m) ∙ ap (λ (n : ℕ). rowParts (tabled t (i + k) n)) (sym f))

@@ -1,5 +1,5 @@
 -- Cases and the lines that answer them (the vectors' README).
-use mathlib.Core.Bool.{Bool, true, false, cond, _&&_}
+use mathlib.Core.Bool.{Bool, cond, _&&_}
 use mathlib.Core.List.{List, [], _∷_, _++_, map}
 use Prim.Native.Nat.{ℕ, _-_, _%_}
 use lib.ListN.{length, getD, take, drop}

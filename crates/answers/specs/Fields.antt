@@ -5,7 +5,7 @@ use Prim.Native.Nat.{ℕ, _≤_}
 use lib.ListN.{length, getD, take}
 use Rattle.text.specs.declared.Line.{Line}
 use Rattle.text.specs.declared.Line.the-variants.{Octets, Not}
-use Rattle.answers.specs.Cases.{Field, some, malformed, fieldOf, alone, bad, octetsReply, caseReply}
+use Rattle.answers.specs.Cases.{some, malformed, fieldOf, alone, bad, octetsReply, caseReply}
 
 -- its octets stand at the front; or it tells nothing
 abbrev pub FieldRead : List ℕ → Line → List ℕ → Type 0

@@ -1,9 +1,9 @@
--- What a turn leaves.
-use Prim.Native.Nat.{ℕ, _<_}
+-- What a turn brings.
+use Prim.Native.Nat.{ℕ, _≤_}
 use Rattle.cases.specs.declared.Turn.{Turn}
-use Rattle.cases.specs.declared.Turn.the-variants.{Held, Ended}
+use Rattle.cases.specs.declared.Turn.the-variants.{More, Last}
 
--- there is room for more
+-- no more than there is room for
 abbrev pub Going : ℕ → Turn → Type 0
-Going n (Held k) = k < n
-Going n Ended = Unit {0}
+Going n (More k) = k ≤ n
+Going n (Last k) = k ≤ n

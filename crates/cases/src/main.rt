@@ -1,100 +1,219 @@
 // Answers cases, a line each, from standard input to standard output.
 ghost use mathlib.Core.Path.{_≡_};
-ghost use Prim.Native.Nat.{_+_, _*_, _≤_, _<_};
+ghost use Prim.Native.Nat.{_+_, _*_, _^_, _≤_, _<_};
 ghost use lib.ListN.{length};
+ghost use Rattle.fill.specs.Columns.{columns};
+ghost use Rattle.answers.specs.Replies.{Lent};
 ghost use Rattle.cases.specs.Turns.{Going};
 
-// Writes the answers to the whole lines among the octets, a run of them at a time, and gives how many octets those lines are.
-fn answer_all(src: &[u8], work: &mut [u8], out: &mut [u8]) -> usize
-    requires { ⌜ length (now src) ≤ 2 * length (now work) ⌝ }
+fn least(a: usize, b: usize) -> usize
+    ensures { λ r. ⌜ (r ≤ a) × (r ≤ b) × (1 ≤ a → 1 ≤ b → 1 ≤ r) ⌝ }
+{
+    if a <= b {
+        return a;
+    }
+    b
+}
+
+// Writes out what stands at the front where it is much, and gives how much stands there then.
+fn flush(out: &[u8], n: usize) -> usize
+    requires { ⌜ n ≤ length (now out) ⌝ }
+    ensures { λ r. ⌜ r ≤ 32768 ⌝ }
+{
+    if n <= 32768 {
+        return n;
+    }
+    io::write_all(libc::STDOUT_FILENO, &out[..n]);
+    0
+}
+
+// Answers a case: what the answer begins with, its rows, at most 256 at a time, and a line feed.
+fn answer_case(
+    line: &[u8],
+    work: &mut [u8],
+    ty: &mut [i32],
+    own: &mut [u8],
+    label: &mut [u32],
+    number: &mut [i64],
+    first: &mut [i32],
+    second: &mut [i32],
+    place: &mut [u32],
+    below: &mut [u32],
+    start: &mut [u32],
+    end: &mut [u32],
+    out: &mut [u8],
+)
+    requires { ⌜ (length (now line) ≤ 2 * length (now work)) × Lent (columns (now ty) (now own) (now label) (now number) (now first) (now second) (now place) (now below) (now start) (now end)) × (65536 ≤ length (now out)) ⌝ }
+{
+    let begun = answers::begin_line(
+        line,
+        work,
+        ty,
+        own,
+        label,
+        number,
+        first,
+        second,
+        place,
+        below,
+        start,
+        end,
+        out,
+        0,
+    );
+    let n = begun.rows;
+    let mut next = begun.end;
+    let mut k = 0;
+    while k < n {
+        let m = least(n - k, 256);
+        next = answers::put_rows(
+            ty,
+            own,
+            label,
+            number,
+            first,
+            second,
+            place,
+            below,
+            start,
+            end,
+            k,
+            m,
+            out,
+            next,
+        );
+        next = flush(out, next);
+        k += m;
+    }
+    out[next] = b'\n';
+    io::write_all(libc::STDOUT_FILENO, &out[..next + 1]);
+}
+
+// Answers the whole lines among the octets, and gives how many octets those lines are.
+fn answer_all(
+    src: &[u8],
+    work: &mut [u8],
+    ty: &mut [i32],
+    own: &mut [u8],
+    label: &mut [u32],
+    number: &mut [i64],
+    first: &mut [i32],
+    second: &mut [i32],
+    place: &mut [u32],
+    below: &mut [u32],
+    start: &mut [u32],
+    end: &mut [u32],
+    out: &mut [u8],
+) -> usize
+    requires { ⌜ (length (now src) ≤ 2 * length (now work)) × Lent (columns (now ty) (now own) (now label) (now number) (now first) (now second) (now place) (now below) (now start) (now end)) × (65536 ≤ length (now out)) × (length (now src) < 2 ^ 32) ⌝ }
     ensures { λ r. ⌜ r ≤ length (now (src .entry)) ⌝ }
 {
-    let mut at = 0;
-    while at < src.len() {
-        let p = answers::answer_lines(&src[at..], work, out);
-        let used = p.used;
-        let written = p.written;
-        if used == 0 {
-            break;
-        }
-        io::write_all(libc::STDOUT_FILENO, &out[..written]);
-        at += used;
+    let n = src.len();
+    let mut used = 0;
+    let mut feed = bytes::scan::find(src, 0, n, b'\n');
+    while feed < n {
+        answer_case(
+            &src[used..feed],
+            work,
+            ty,
+            own,
+            label,
+            number,
+            first,
+            second,
+            place,
+            below,
+            start,
+            end,
+            out,
+        );
+        used = feed + 1;
+        feed = bytes::scan::find(src, used, n, b'\n');
     }
-    at
+    used
 }
 
-// Moves what stands from `from` to `end` to the front, and gives how many octets that is.
-fn keep(src: &mut [u8], from: usize, end: usize) -> usize
-    requires { ⌜ (from ≤ end) × (end ≤ length (now src)) ⌝ }
-    ensures { λ r. ⌜ r + from ≡ end ⌝ }
-{
-    let n = end - from;
-    let mut i = 0;
-    while i < n {
-        src[i] = src[from + i];
-        i += 1;
-    }
-    n
-}
-
-// A line too long for the room is kept as one octet, which begins no case: it is answered as malformed where it ends.
-fn shorten(src: &mut [u8], held: usize) -> usize
-    requires { ⌜ (held ≤ length (now src)) × (2 ≤ length (now src)) ⌝ }
-    ensures { λ r. ⌜ r < length (now (src .entry)) ⌝ }
-{
-    if held < src.len() {
-        return held;
-    }
-    src[0] = b'?';
-    1
-}
-
-// Reads once, after what is held, and gives how many octets came.
-fn read_more(src: &mut [u8], held: usize) -> usize
-    requires { ⌜ held ≤ length (now src) ⌝ }
-    ensures { λ r. ⌜ held + r ≤ length (now (src .entry)) ⌝ }
-{
-    let part = &mut src[held..];
-    let got = libc::read(libc::STDIN_FILENO, part);
-    io::count(got, part)
-}
-
-// What a turn leaves: a part of a line, of so many octets, at the front; or that the input has ended.
+// What a turn brings: so many octets at the front; or the last of them, where the input has ended.
 enum Turn {
-    Held(usize),
-    Ended,
+    More(usize),
+    Last(usize),
 }
 
-// Reads once, and answers the whole lines that are there. A last line may lack its line feed.
-fn take_turn(src: &mut [u8], work: &mut [u8], out: &mut [u8], held: usize) -> Turn
-    requires { ⌜ (held < length (now src)) × (2 ≤ length (now src)) × (length (now src) ≤ 2 * length (now work)) ⌝ }
+// Reads once, after what is held. A last line may lack its line feed.
+fn take_turn(src: &mut [u8], held: usize) -> Turn
+    requires { ⌜ held < length (now src) ⌝ }
     ensures { λ r. ⌜ Going (length (now (src .entry))) r ⌝ }
 {
-    let came = read_more(src, held);
-    if came == 0 {
-        src[held] = b'\n';
-        let last = held + 1;
-        if 0 < held {
-            answer_all(&src[..last], work, out);
-        }
-        return Turn::Ended;
+    let came = input::read_more(src, held);
+    if 0 < came {
+        return Turn::More(held + came);
     }
-    let end = held + came;
-    let used = answer_all(&src[..end], work, out);
-    let rest = keep(src, used, end);
-    Turn::Held(shorten(src, rest))
+    if held == 0 {
+        return Turn::Last(0);
+    }
+    src[held] = b'\n';
+    Turn::Last(held + 1)
 }
 
 // A proved loop has to end, and nothing says that the input does: it counts its turns down, from a number that no run uses up.
-fn answer_input(src: &mut [u8], work: &mut [u8], out: &mut [u8])
-    requires { ⌜ (2 ≤ length (now src)) × (length (now src) ≤ 2 * length (now work)) ⌝ }
+fn answer_input(
+    src: &mut [u8],
+    work: &mut [u8],
+    ty: &mut [i32],
+    own: &mut [u8],
+    label: &mut [u32],
+    number: &mut [i64],
+    first: &mut [i32],
+    second: &mut [i32],
+    place: &mut [u32],
+    below: &mut [u32],
+    start: &mut [u32],
+    end: &mut [u32],
+    out: &mut [u8],
+)
+    requires { ⌜ (2 ≤ length (now src)) × (length (now src) ≤ 2 * length (now work)) × Lent (columns (now ty) (now own) (now label) (now number) (now first) (now second) (now place) (now below) (now start) (now end)) × (65536 ≤ length (now out)) × (length (now src) < 2 ^ 32) ⌝ }
 {
     let mut held = 0;
     let mut turns = u64::MAX;
     while turns > 0 {
-        match take_turn(src, work, out, held) {
-            Turn::Ended => return,
-            Turn::Held(n) => held = n,
+        match take_turn(src, held) {
+            Turn::Last(n) => {
+                answer_all(
+                    &src[..n],
+                    work,
+                    ty,
+                    own,
+                    label,
+                    number,
+                    first,
+                    second,
+                    place,
+                    below,
+                    start,
+                    end,
+                    out,
+                );
+                return;
+            }
+            Turn::More(n) => {
+                let used = answer_all(
+                    &src[..n],
+                    work,
+                    ty,
+                    own,
+                    label,
+                    number,
+                    first,
+                    second,
+                    place,
+                    below,
+                    start,
+                    end,
+                    out,
+                );
+                let rest = input::keep(src, used, n);
+                held = input::shorten(src, rest);
+            }
         }
         turns -= 1;
     }
@@ -114,9 +233,57 @@ fn octets_room() -> [u8; 524289]
     [0; 524289]
 }
 
+fn column_i32() -> [i32; 98304]
+    ensures { λ r. ⌜ 98304 ≡ length r ⌝ }
+{
+    [0; 98304]
+}
+
+fn column_u8() -> [u8; 98304]
+    ensures { λ r. ⌜ 98304 ≡ length r ⌝ }
+{
+    [0; 98304]
+}
+
+fn column_u32() -> [u32; 98304]
+    ensures { λ r. ⌜ 98304 ≡ length r ⌝ }
+{
+    [0; 98304]
+}
+
+fn column_i64() -> [i64; 98304]
+    ensures { λ r. ⌜ 98304 ≡ length r ⌝ }
+{
+    [0; 98304]
+}
+
 fn main() {
     let mut src = line_room();
     let mut work = octets_room();
+    let mut ty = column_i32();
+    let mut own = column_u8();
+    let mut label = column_u32();
+    let mut number = column_i64();
+    let mut first = column_i32();
+    let mut second = column_i32();
+    let mut place = column_u32();
+    let mut below = column_u32();
+    let mut start = column_u32();
+    let mut end = column_u32();
     let mut out = io::large_buffer();
-    answer_input(&mut src, &mut work, &mut out);
+    answer_input(
+        &mut src,
+        &mut work,
+        &mut ty,
+        &mut own,
+        &mut label,
+        &mut number,
+        &mut first,
+        &mut second,
+        &mut place,
+        &mut below,
+        &mut start,
+        &mut end,
+        &mut out,
+    );
 }

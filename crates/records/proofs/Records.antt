@@ -105,9 +105,9 @@ filled-room {rs} {t} f = record {
   end-room = filled-long (λ (r : Row). r .end) rs (t .end) (f .end-filled);
 }
 
--- a row below the limit
-pub row-room : {n k : ℕ} {t : Table} → Roomy n t → k < n → Roomy (k + 1) t
-row-room h g = record {
+-- fewer rows
+pub rows-room : {n m : ℕ} {t : Table} → Roomy n t → m ≤ n → Roomy m t
+rows-room h g = record {
   ty-room = omega (arith, h .ty-room);
   own-room = omega (arith, h .own-room);
   label-room = omega (arith, h .label-room);
@@ -119,6 +119,10 @@ row-room h g = record {
   start-room = omega (arith, h .start-room);
   end-room = omega (arith, h .end-room);
 }
+
+-- a row below the limit
+pub row-room : {n k : ℕ} {t : Table} → Roomy n t → k < n → Roomy (k + 1) t
+row-room h g = rows-room h (omega arith)
 
 -- ---- the texts of rows, one after another
 

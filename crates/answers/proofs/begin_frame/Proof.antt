@@ -1,4 +1,3 @@
-use mathlib.Core.Path.{refl}
 use mir.Syntax.{w32}
 use Rattle.integer.proofs.Signs.{held}
 use Rattle.answers.proofs.Replies.{frame-no, frame-begins}
