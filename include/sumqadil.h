@@ -39,9 +39,9 @@ enum sumqadil_refusal {
     SUMQADIL_BAD_REFERENCE = 10, /* reference to no ended identity: the number */
     SUMQADIL_LEFT_OVER = 11,     /* octets left over: the first of them */
     SUMQADIL_FEW_ROWS = 12,      /* fewer rows lent than needed: 0 */
-    SUMQADIL_BAD_ROW = 14,       /* a row that no accepted octets have: 0 */
-    SUMQADIL_NOT_SO = 15,        /* row can't be had as that type: 0 */
-    SUMQADIL_NOT_THERE = 16      /* the frame's message isn't a user type: 0 */
+    SUMQADIL_BAD_ROW = 14,       /* type unknown or not carried, or a number impossible for it: 0 */
+    SUMQADIL_OTHER_TYPE = 15,    /* row can't be had as that type: 0 */
+    SUMQADIL_NO_USER_TYPE = 16   /* the frame's message isn't a user type: 0 */
 };
 
 /* What a row may be asked for as. */
@@ -124,10 +124,10 @@ uint8_t sumqadil_read_frame(
     size_t *rows, int32_t *conversation, size_t *from, size_t *place);
 
 /*
- * The value of a row with this type and number, as the type asked for (enum sumqadil_as). No other number of a row has a say in it.
+ * The value of a row with this type and number, as the type asked for (enum sumqadil_as). No other number of the row is looked at.
  * Result: *value is the value; a boolean's is 0 or 1.
- * Refusal: *value is 0. Refusals: 14 if no row has this type and number; 15 if the row can't be had as that type, or there is no such type
- * in enum sumqadil_as.
+ * Refusal: *value is 0. Refusals: 14 if the type is unknown or not carried, or the number impossible for it; 15 if the row can't be had as
+ * that type, or there is no such type in enum sumqadil_as.
  */
 uint8_t sumqadil_ask(int32_t ty, int64_t number, uint8_t what, int64_t *value);
 

@@ -180,7 +180,7 @@ static void frames(void)
     CHECK(memcmp(frame + from + table.contents[2], "ab", 2) == 0);
 
     c = columns(ROWS);
-    CHECK(sumqadil_read_frame_into(other, sizeof other, &c, &rows, &conversation, &from, &place) == SUMQADIL_NOT_THERE);
+    CHECK(sumqadil_read_frame_into(other, sizeof other, &c, &rows, &conversation, &from, &place) == SUMQADIL_NO_USER_TYPE);
     CHECK(rows == 0 && conversation == 0 && from == 0 && place == 0 && untouched());
     CHECK(sumqadil_check_frame(negative, sizeof negative, &rows, &conversation, &from, &place) == SUMQADIL_OK && conversation == -2);
 }
@@ -193,7 +193,7 @@ static void asking(void)
     CHECK(sumqadil_ask(-11, -7, SUMQADIL_AS_BOOLEAN, &value) == SUMQADIL_OK && value == 1);
     CHECK(sumqadil_ask(-37, 0, SUMQADIL_AS_CHAR, &value) == SUMQADIL_OK && value == 0);
     value = LENT;
-    CHECK(sumqadil_ask(-2, 99, SUMQADIL_AS_BOOLEAN, &value) == SUMQADIL_NOT_SO && value == 0);
+    CHECK(sumqadil_ask(-2, 99, SUMQADIL_AS_BOOLEAN, &value) == SUMQADIL_OTHER_TYPE && value == 0);
     value = LENT;
     CHECK(sumqadil_ask(-4, 99, SUMQADIL_AS_INT64, &value) == SUMQADIL_BAD_ROW && value == 0);
     value = LENT;
@@ -201,8 +201,8 @@ static void asking(void)
     /* no such type: 15, whatever the row */
     for (int what = 6; what < 256; what++) {
         value = LENT;
-        CHECK(sumqadil_ask(-2, 99, (uint8_t)what, &value) == SUMQADIL_NOT_SO && value == 0);
-        CHECK(sumqadil_ask(-4, 99, (uint8_t)what, &value) == SUMQADIL_NOT_SO && value == 0);
+        CHECK(sumqadil_ask(-2, 99, (uint8_t)what, &value) == SUMQADIL_OTHER_TYPE && value == 0);
+        CHECK(sumqadil_ask(-4, 99, (uint8_t)what, &value) == SUMQADIL_OTHER_TYPE && value == 0);
     }
     sumqadil_columns c = columns(ROWS);
     table.ty[1] = -12;

@@ -1,4 +1,4 @@
--- Cases and the lines that answer them (the vectors' README).
+-- Cases and the lines that answer them (docs/STATEMENTS.md, "Cases").
 use mathlib.Core.Bool.{Bool, cond, _&&_}
 use mathlib.Core.List.{List, [], _∷_, _++_, map}
 use Prim.Native.Nat.{ℕ, _-_, _%_}

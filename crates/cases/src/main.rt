@@ -6,6 +6,7 @@ ghost use Rattle.fill.specs.Columns.{columns};
 ghost use Rattle.answers.specs.Replies.{Lent};
 ghost use Rattle.cases.specs.Turns.{Going};
 
+// At most either, and some where both are.
 fn least(a: usize, b: usize) -> usize
     ensures { λ r. ⌜ (r ≤ a) × (r ≤ b) × (1 ≤ a → 1 ≤ b → 1 ≤ r) ⌝ }
 {

@@ -1,6 +1,7 @@
 ghost use mathlib.Core.Path.{_≡_};
 ghost use Prim.Native.Nat.{_+_, _^_, _<_, _≤_};
 ghost use lib.ListN.{length};
+ghost use Rattle.format.specs.Message.{inFrame};
 ghost use Rattle.fill.specs.Columns.{columns};
 ghost use Rattle.frame.specs.Frames.{OpenedBy, Conversation, UserAt, MessageIn, answerOf, needs, FrameRead};
 use integer::Read32;
@@ -16,7 +17,7 @@ pub struct MessagePlace(pub usize);
 // The place in the frame of a message's place, where the message starts at `from`: the one conversion.
 pub fn in_frame(from: FramePlace, p: MessagePlace) -> FramePlace
     requires { ⌜ from .0 + p .0 < 2 ^ 64 ⌝ }
-    ensures { λ r. ⌜ r .0 ≡ from .0 + p .0 ⌝ }
+    ensures { λ r. ⌜ r .0 ≡ inFrame (from .0) (p .0) ⌝ }
 {
     FramePlace(from.0 + p.0)
 }

@@ -1,12 +1,11 @@
-ghost use mathlib.Core.Path.{_≡_};
-ghost use Prim.Native.Nat.{_+_, _≤_, _<_};
+ghost use Prim.Native.Nat.{_≤_};
 ghost use lib.ListN.{length};
-ghost use Rattle.input.specs.Input.{Moved, Shortened};
+ghost use Rattle.input.specs.Input.{Came, Moved, Shortened};
 
 // Reads standard input once, to after the octets that are held, and gives how many came; 0 at its end.
 pub fn read_more(src: &mut [u8], held: usize) -> usize
     requires { ⌜ held ≤ length (now src) ⌝ }
-    ensures { λ r. ⌜ held + r ≤ length (now (src .entry)) ⌝ }
+    ensures { λ r. ⌜ Came (now (src .entry)) held r (now (src .exit)) ⌝ }
 {
     let part = &mut src[held..];
     let got = libc::read(libc::STDIN_FILENO, part);

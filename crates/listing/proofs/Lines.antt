@@ -2,10 +2,11 @@
 use mathlib.Core.Path.{_≡_, refl, sym, ap, subst, _∙_}
 use mathlib.Core.Bool.{Bool, true, false, cond}
 use mathlib.Core.List.{List, [], _∷_, _++_, append-assoc, append-nil}
+use mathlib.Core.Logic.{inl, inr}
 use Prim.Native.Nat.{ℕ, zero, suc, _+_, _-_, _≤_, _<_}
 use native.Mathlib.Omega.{arith}
-use lib.ListN.{length, take, drop, length-drop, length-append, take-append-drop}
-use lib.Seq.{length-take-le, take-all, take-append-seam}
+use lib.ListN.{length, getD, take, drop, length-drop, length-append, take-append-drop}
+use lib.Seq.{length-take-le, take-all, take-append-seam, getD-append-seam, getD-drop}
 use lib.Dec.{eqb}
 use borrow.Author.Tests.{eqb-true}
 use Rattle.bytes.specs.Bytes.{slice, indexAfter, indexOf}
@@ -14,7 +15,7 @@ use Rattle.format.specs.Desk.{lineText, deskFrom, desk}
 use Rattle.integer.specs.Writes.{Wrote}
 use Rattle.text.proofs.Writes.{wrote-append, wrote-kept}
 use Rattle.listing.specs.declared.Progress.{Progress}
-use Rattle.listing.specs.Listing.{Listed, LinesListed}
+use Rattle.listing.specs.Listing.{Listed, WholeLines, LinesListed}
 
 never : {A : Type 0} → true ≡ false → A
 never e = let z : _≡_ {A = ℕ} 0 1 = cc in absurd (omega arith)
@@ -65,11 +66,12 @@ pub record Going (o l : List ℕ) (used written : ℕ) (out : List ℕ) : Type 0
   pub said : List ℕ
   pub goes : (v : List ℕ) → desk (take used o ++ v) ≡ said ++ desk v
   pub wrote : Wrote said 0 l written out
+  pub whole : WholeLines o used
   pub within : used ≤ length o
   pub room : written ≤ length l
 
 pub going-none : {o l : List ℕ} → Going o l 0 0 l
-going-none = record { said = []; goes = λ v. refl; wrote = record { past = refl; holds = refl }; within = omega arith; room = omega arith }
+going-none = record { said = []; goes = λ v. refl; wrote = record { past = refl; holds = refl }; whole = inl refl; within = omega arith; room = omega arith }
 
 module _ {o l : List ℕ} {used written : ℕ} {out : List ℕ} (g : Going o l used written out) {n end : ℕ} (all : n ≡ length o) (f : end ≡ used + indexOf 0x0A (slice used n o)) where
   -- the octets after those used
@@ -99,6 +101,13 @@ module _ {o l : List ℕ} {used written : ℕ} {out : List ℕ} (g : Going o l u
     line : take (end - used) (drop used o) ≡ u
     line = let e : end - used ≡ indexOf 0x0A (drop used o) = omega (arith, at) in ap (λ (j : ℕ). take j (drop used o)) e
 
+    -- its line feed
+    fed : getD o (end + 1 - 1) 0 ≡ 0x0A
+    fed =
+        let here : length u ≡ indexOf 0x0A (drop used o) = length-take-le _ (drop used o) (omega (arith, at, h, all, long)) in
+        let e : end + 1 - 1 ≡ used + length u = omega (arith, at, here) in
+        ap (λ (j : ℕ). getD o j 0) e ∙ sym (getD-drop used o (length u) 0) ∙ ap (λ (m : List ℕ). getD m (length u) 0) (split .1) ∙ getD-append-seam u 0x0A w 0
+
     -- those used, with the line and its line feed
     abbrev done : List ℕ
     done = take used o ++ (u ++ (0x0A ∷ []))
@@ -118,12 +127,13 @@ module _ {o l : List ℕ} {used written : ℕ} {out : List ℕ} (g : Going o l u
     pub going-again : {next : ℕ} {after : List ℕ} → written + 32768 ≤ length l → Listed (lineText (take (end - used) (drop used o))) written out next after → Going o l (end + 1) next after
     going-again {next} {after} r x =
         let y : Listed (lineText u) written out next after = subst (λ (m : List ℕ). Listed (lineText m) written out next after) line x in
-        record { said = g .said ++ lineText u; goes = went; wrote = wrote-append (g .wrote) (y .wrote); within = omega (arith, h, all); room = omega (arith, y .wrote .past, y .short, r) }
+        record { said = g .said ++ lineText u; goes = went; wrote = wrote-append (g .wrote) (y .wrote); whole = inr fed; within = omega (arith, h, all); room = omega (arith, y .wrote .past, y .short, r) }
 
 pub listed-lines : {o l out : List ℕ} {used written : ℕ} → Going o l used written out → (written + 32768 ≤ length l → has 0x0A (drop used o) ≡ false) → LinesListed o l (record { used = used; written = written }) out
 unfolding desk deskFrom
 listed-lines {o} {l} {out} {used} {written} g a = record {
   wrote = subst (λ (v : List ℕ). Wrote v 0 l written out) (sym (ap desk (sym (append-nil (take used o))) ∙ g .goes [] ∙ append-nil (g .said))) (g .wrote);
+  whole = g .whole;
   within = g .within;
   room = g .room;
   all = a;

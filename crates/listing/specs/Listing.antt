@@ -2,8 +2,9 @@
 use mathlib.Core.Path.{_≡_}
 use mathlib.Core.Bool.{false}
 use mathlib.Core.List.{List}
-use Prim.Native.Nat.{ℕ, _+_, _*_, _≤_}
-use lib.ListN.{length, take, drop}
+use mathlib.Core.Logic.{_⊎_}
+use Prim.Native.Nat.{ℕ, _+_, _-_, _*_, _≤_}
+use lib.ListN.{length, getD, take, drop}
 use Rattle.format.specs.Values.{has}
 use Rattle.format.specs.Desk.{rowsText, desk}
 use Rattle.format.specs.Writing.{Table, tabled}
@@ -24,9 +25,14 @@ pub record Listed (v : List ℕ) (at : ℕ) (l : List ℕ) (next : ℕ) (after :
   pub wrote : Wrote v at l next after
   pub short : length v ≤ 32768
 
+-- what is used ends with a line feed, if it is anything
+abbrev pub WholeLines : List ℕ → ℕ → Type 0
+WholeLines o used = (used ≡ 0) ⊎ (getD o (used - 1) 0 ≡ 0x0A)
+
 -- the lines that end before `used`: what the desk prints for them is written from the front on. No whole line is left, where there is room for one more.
 pub record LinesListed (o l : List ℕ) (r : Progress) (after : List ℕ) : Type 0 where
   pub wrote : Wrote (desk (take (r .used) o)) 0 l (r .written) after
+  pub whole : WholeLines o (r .used)
   pub within : r .used ≤ length o
   pub room : r .written ≤ length l
   pub all : r .written + 32768 ≤ length l → has 0x0A (drop (r .used) o) ≡ false

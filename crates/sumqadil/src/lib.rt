@@ -199,7 +199,7 @@ fn ask_by(row: Row, what: u8) -> Asked
     }
 }
 
-// The value of a row with this type and number, as the type asked for. The row's other numbers have no say in it.
+// The value of a row with this type and number, as the type asked for. No other number of the row is looked at.
 #[no_mangle]
 pub extern "C" fn sumqadil_ask(ty: i32, number: i64, what: u8, value: &mut i64) -> u8
     ensures { λ r. ⌜ AskedBy what ty number r (now (value .exit)) ⌝ }

@@ -81,7 +81,7 @@ pub fn count_rows(message: &[u8]) -> Result<usize, Refusal> {
 /// use sumqadil::{check_frame, Frame, Reason};
 ///
 /// assert_eq!(check_frame(&[0x04, 0x07, 0x05, 0x00, 0x40]), Ok(Frame { conversation: 7, message: 2, rows: 1 }));
-/// assert_eq!(check_frame(&[0x02, 0x07, 0x64]).unwrap_err().reason, Reason::NotThere);
+/// assert_eq!(check_frame(&[0x02, 0x07, 0x64]).unwrap_err().reason, Reason::NoUserType);
 /// ```
 pub fn check_frame(frame: &[u8]) -> Result<Frame, Refusal> {
     let (mut rows, mut conversation, mut message, mut place) = (0, 0, 0, 0);
@@ -107,7 +107,7 @@ pub fn check_frame(frame: &[u8]) -> Result<Frame, Refusal> {
 ///
 /// assert_eq!(ask(-2, 300, As::Int16), Ok(300));
 /// assert_eq!(ask(-2, -1, As::Octet), Ok(255));
-/// assert_eq!(ask(-2, 300, As::Octet).unwrap_err().reason, Reason::NotSo);
+/// assert_eq!(ask(-2, 300, As::Octet).unwrap_err().reason, Reason::OtherType);
 /// assert_eq!(ask(-4, 300, As::Int64).unwrap_err().reason, Reason::BadRow);
 /// ```
 pub fn ask(ty: i32, number: i64, wanted: As) -> Result<i64, Refusal> {

@@ -38,12 +38,12 @@ pub enum Reason {
     LeftOver = 11,
     /// Fewer rows lent than needed: 0.
     FewRows = 12,
-    /// A row that no accepted octets have: 0.
+    /// Type unknown or not carried, or a number impossible for it: 0.
     BadRow = 14,
     /// Row can't be had as that type: 0.
-    NotSo = 15,
+    OtherType = 15,
     /// The frame's message isn't a user type: 0.
-    NotThere = 16,
+    NoUserType = 16,
 }
 
 impl Reason {
@@ -71,8 +71,8 @@ impl Reason {
             11 => LeftOver,
             12 => FewRows,
             14 => BadRow,
-            15 => NotSo,
-            16 => NotThere,
+            15 => OtherType,
+            16 => NoUserType,
             _ => return None,
         })
     }

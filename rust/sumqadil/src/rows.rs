@@ -35,7 +35,7 @@ impl Row {
     ///
     /// let table = Table::of_message(&[0x41, 0xA3, 0x01])?;
     /// assert_eq!(table.row(0).ask(As::Octet), Ok(99));
-    /// assert_eq!(table.row(0).ask(As::Boolean).unwrap_err().reason, Reason::NotSo);
+    /// assert_eq!(table.row(0).ask(As::Boolean).unwrap_err().reason, Reason::OtherType);
     /// # Ok::<(), sumqadil::Refusal>(())
     /// ```
     pub fn ask(&self, wanted: As) -> Result<i64, Refusal> {
