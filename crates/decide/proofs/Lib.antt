@@ -1,3 +1,5 @@
 pub mod Keys
 pub mod Table
 pub mod Elements
+pub mod Forms
+pub mod Gates

@@ -1,6 +1,6 @@
 -- What the answers of the code say, as readings at a place.
 use mathlib.Core.Path.{_≡_}
-use mathlib.Core.Bool.{true}
+use mathlib.Core.Bool.{Bool, true, false}
 use mathlib.Core.List.{List}
 use Prim.Native.Nat.{ℕ, _^_, _<_, _≤_}
 use lib.ListN.{length}
@@ -34,3 +34,15 @@ ElementIs o at (NoType r) = (e : Env) → element true (stand o at e) ≡ stop r
 
 pub record ElementAt (o : List ℕ) (at : ℕ) (r : Element) : Type 0 where
   pub is : ElementIs o at r
+
+-- an element type, where one stands
+abbrev pub Elementary : Bool → ℤ → Type 0
+Elementary true t = elementary t ≡ true
+Elementary false t = Unit {0}
+
+abbrev pub TypeIs : List ℕ → Bool → ℕ → Element → Type 0
+TypeIs o on at (Of next t) = Elementary on t × (at ≤ next) × (next ≤ length o) × ((e : Env) → element on (stand o at e) ≡ got t (stand o next e))
+TypeIs o on at (NoType r) = (e : Env) → element on (stand o at e) ≡ stop r
+
+pub record TypeAt (o : List ℕ) (on : Bool) (at : ℕ) (r : Element) : Type 0 where
+  pub is : TypeIs o on at r

@@ -1,2 +1,4 @@
 pub mod Classes
 pub mod Elements
+pub mod Forms
+pub mod Gates

@@ -1,6 +1,11 @@
 ghost use mathlib.Core.Path.{_≡_};
+ghost use Prim.Native.Nat.{_^_, _<_, _≤_};
+ghost use lib.ListN.{length};
+ghost use Rattle.format.specs.Values.{label};
 ghost use Rattle.decide.specs.Classes.{bitsOf, ClassOf, isSturdy};
-ghost use Rattle.decide.specs.Elements.{AmountAt, ElementAt};
+ghost use Rattle.decide.specs.Elements.{AmountAt, ElementAt, TypeAt};
+ghost use Rattle.decide.specs.Forms.{IdentifierAt, TypedAt, formOf, alikeNest, nestIn, turn};
+ghost use Rattle.decide.specs.Gates.{IndexNext, NextAt, nextLow};
 use integer::Read32;
 use integer::Signed;
 use reading::Refusal;
@@ -148,4 +153,190 @@ pub fn element_at(src: &[u8], at: usize) -> Element
         }
         Read32::Refused32(r) => Element::NoType(r),
     }
+}
+
+// The element type at a place, if one stands there; else the same place and 0.
+pub fn type_at(src: &[u8], on: bool, at: usize) -> Element
+    requires { ⌜ at ≤ length (now src) ⌝ }
+    ensures { λ r. ⌜ TypeAt (now (src .entry)) on at r ⌝ }
+{
+    if on {
+        return element_at(src, at);
+    }
+    Element::Of(at, 0)
+}
+
+// ---- How a value stands ----
+
+// How a value inside a container stands: with its identifier; so too, as the value of an identity, which isn't one; or bare, of a type.
+pub enum Form {
+    Whole,
+    Named,
+    Bare(i32),
+}
+
+// The place of a value's data, 1 if its identifier stands before them, else 0, and its type; or a refusal.
+pub enum Typed {
+    Standing(usize, u8, i32),
+    Untyped(Refusal),
+}
+
+fn identifier_at(src: &[u8], at: usize) -> Typed
+    ensures { λ r. ⌜ IdentifierAt (now (src .entry)) at r ⌝ }
+{
+    match integer::int32_at(src, at) {
+        Read32::Int32(from, t) => Typed::Standing(from, 1, t),
+        Read32::Refused32(r) => Typed::Untyped(r),
+    }
+}
+
+// The type of the value at a place.
+pub fn typed_at(src: &[u8], form: Form, at: usize) -> Typed
+    requires { ⌜ at ≤ length (now src) ⌝ }
+    ensures { λ r. ⌜ TypedAt (now (src .entry)) form at r ⌝ }
+{
+    match form {
+        Form::Whole => identifier_at(src, at),
+        Form::Named => identifier_at(src, at),
+        Form::Bare(t) => Typed::Standing(at, 0, t),
+    }
+}
+
+// ---- What a container holds ----
+
+// The values of a container: how many, or below what their indexes; how they stand, by turns; whether they have indexes, and whether they are the keys
+// and values of a map.
+pub struct Nest {
+    pub count: usize,
+    pub form: Form,
+    pub other: Form,
+    pub indexed: bool,
+    pub paired: bool,
+}
+
+// Values that stand in one form.
+pub fn alike(form: Form, count: usize, indexed: bool) -> Nest
+    ensures { λ r. ⌜ r ≡ alikeNest form count indexed ⌝ }
+{
+    Nest {
+        count,
+        form,
+        other: form,
+        indexed,
+        paired: false,
+    }
+}
+
+fn form_of(on: bool, t: i32) -> Form
+    ensures { λ r. ⌜ r ≡ formOf on t ⌝ }
+{
+    if on {
+        return Form::Bare(t);
+    }
+    Form::Whole
+}
+
+// What a container of a shape holds, by its element types and its number.
+pub fn nest_of(shape: Shape, first: i32, second: i32, n: u32) -> Nest
+    ensures { λ r. ⌜ r ≡ nestIn (shape .inside) (shape .first) (shape .second) first second n ⌝ }
+{
+    let inside = shape.inside;
+    let form = form_of(shape.first, first);
+    match inside {
+        Inside::List => alike(form, n as usize, false),
+        Inside::Pairs => Nest {
+            count: 2 * n as usize,
+            form,
+            other: form_of(shape.second, second),
+            indexed: false,
+            paired: true,
+        },
+        Inside::Sparse => alike(form, n as usize, true),
+        Inside::User => alike(Form::Whole, 2147483648, true),
+    }
+}
+
+// ---- The next value of a container ----
+
+// A value at a place, with its label; the end, and the place past it; or a refusal.
+pub enum Next {
+    Value(usize, u32),
+    End(usize),
+    Halt(Refusal),
+}
+
+fn index_next(src: &[u8], top: usize, low: u32, at: usize) -> Next
+    ensures { λ r. ⌜ IndexNext (now (src .entry)) top low at r ⌝ }
+{
+    match integer::signed_at(src, at) {
+        Signed::Faulty(r) => Next::Halt(r),
+        Signed::Negative(next, n) => {
+            if n == 0 {
+                return Next::End(next);
+            }
+            Next::Halt(Refusal {
+                place: at,
+                number: 5,
+            })
+        }
+        Signed::Positive(next, j) => {
+            if j < low {
+                return Next::Halt(Refusal {
+                    place: at,
+                    number: 5,
+                });
+            }
+            if top <= (j as usize) {
+                return Next::Halt(Refusal {
+                    place: at,
+                    number: 5,
+                });
+            }
+            Next::Value(next, j)
+        }
+    }
+}
+
+fn label_of(paired: bool, i: u32) -> u32
+    ensures { λ r. ⌜ r ≡ label paired i ⌝ }
+{
+    if paired {
+        return i / 2;
+    }
+    i
+}
+
+// The next value of a container, where `low` is the position of the next one, or with indexes the least index that may come.
+pub fn next_at(src: &[u8], indexed: bool, paired: bool, count: usize, low: u32, at: usize) -> Next
+    requires { ⌜ at ≤ length (now src) ⌝ }
+    ensures { λ r. ⌜ NextAt (now (src .entry)) indexed paired count low at r ⌝ }
+{
+    if indexed {
+        return index_next(src, count, low, at);
+    }
+    if count <= (low as usize) {
+        return Next::End(at);
+    }
+    Next::Value(at, label_of(paired, low))
+}
+
+// The position, or least index, after a value with a label.
+pub fn low_after(indexed: bool, label: u32, low: u32) -> u32
+    requires { ⌜ nextLow indexed label low < 2 ^ 32 ⌝ }
+    ensures { λ r. ⌜ r ≡ nextLow indexed label low ⌝ }
+{
+    if indexed {
+        return label + 1;
+    }
+    low + 1
+}
+
+// The form of the value at a position: of a map's keys and values, by turns.
+pub fn turn_of(form: Form, other: Form, i: u32) -> Form
+    ensures { λ r. ⌜ r ≡ turn form other i ⌝ }
+{
+    if i % 2 == 0 {
+        return form;
+    }
+    other
 }

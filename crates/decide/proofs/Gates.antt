@@ -1,0 +1,66 @@
+-- The next value of a container, as the code decides it.
+use mathlib.Core.Path.{_≡_, sym, ap, subst, _∙_}
+use mathlib.Core.Bool.{Bool, true, false}
+use mathlib.Core.List.{List}
+use Prim.Native.Nat.{ℕ, _+_, _<_, _≤_}
+use native.Mathlib.Omega.{arith}
+use native.Mathlib.Numerals.{add-one}
+use lib.ListN.{length}
+use lib.IntN.{ℤ}
+use borrow.Author.Tests.{le-leb, lt-leb, le-ltb, lt-ltb}
+use Rattle.reading.specs.declared.Refusal.{Refusal}
+use Rattle.reading.specs.Reading.{Env, Out, refusal, stand}
+use Rattle.integer.specs.declared.Signed.{Signed}
+use Rattle.integer.specs.declared.Signed.the-variants.{Positive, Negative, Faulty}
+use Rattle.integer.specs.Answers.{outSigned, pastSigned, ReadsSigned}
+use Rattle.format.specs.Values.{label}
+use Rattle.decide.specs.declared.Next.{Next}
+use Rattle.decide.specs.declared.Next.the-variants.{Value, End, Halt}
+use Rattle.decide.specs.Gates.{indexGate, gate, nextLow, NextAt, IndexNext}
+
+module _ {o : List ℕ} {at : ℕ} {x : Signed} (reads : ReadsSigned o at x) where
+  -- by the index that was read
+  by-index : (top low : ℕ) (paired : Bool) (e : Env) → gate true paired top low (stand o at e) ≡ indexGate at top low (outSigned o e x)
+  unfolding stand
+  by-index top low paired e = ap (indexGate at top low) (sym (reads .same e))
+
+module _ {o : List ℕ} {top low at : ℕ} {x : Signed} (reads : ReadsSigned o at x) where
+  pub index-faulty : {r : Refusal} → x ≡ Faulty r → IndexNext o top low at (Halt r)
+  index-faulty h = record { next = λ paired. record { same = λ e. sym (by-index reads top low paired e ∙ rw h); past = tt } }
+
+  pub index-end : {next n : ℕ} → x ≡ Negative next n → n ≡ 0 → IndexNext o top low at (End next)
+  index-end h z = let q = subst (pastSigned o at) h (reads .past) in
+      record { next = λ paired. record { same = λ e. sym (by-index reads top low paired e ∙ rw (h, z)); past = (omega arith, q .1) } }
+
+  pub index-below : {next n : ℕ} → x ≡ Negative next n → (n ≡ 0 → ⊥) → IndexNext o top low at (Halt (refusal 5 at))
+  index-below {next} {n} h z =
+      record { next = λ paired. record { same = λ e. sym (by-index reads top low paired e ∙ rw (h, le-leb 0 n (omega arith), lt-leb n 0 (omega arith))); past = tt } }
+
+  pub index-low : {next n : ℕ} → x ≡ Positive next n → n < low → IndexNext o top low at (Halt (refusal 5 at))
+  index-low {next} {n} h l = record { next = λ paired. record { same = λ e. sym (by-index reads top low paired e ∙ rw (h, lt-leb low n l)); past = tt } }
+
+  pub index-high : {next n : ℕ} → x ≡ Positive next n → low ≤ n → top ≤ n → IndexNext o top low at (Halt (refusal 5 at))
+  index-high {next} {n} h l k = record { next = λ paired. record { same = λ e. sym (by-index reads top low paired e ∙ rw (h, le-leb low n l, le-ltb n top k)); past = tt } }
+
+  pub index-value : {next n : ℕ} → x ≡ Positive next n → low ≤ n → n < top → IndexNext o top low at (Value next n)
+  index-value {next} {n} h l k = let q = subst (pastSigned o at) h (reads .past) in
+      record { next = λ paired. record { same = λ e. sym (by-index reads top low paired e ∙ rw (h, le-leb low n l, lt-ltb n top k)); past = (omega arith, q .1, omega arith, omega arith) } }
+
+module _ {o : List ℕ} {x paired : Bool} {count low at : ℕ} where
+  pub next-index : x ≡ true → {r : Next} → IndexNext o count low at r → NextAt o x paired count low at r
+  next-index e h = rw e (h .next paired)
+
+  pub next-end : x ≡ false → at ≤ length o → count ≤ low → NextAt o x paired count low at (End at)
+  next-end e h l = rw e record { same = λ _. rw (le-ltb low count l); past = (omega arith, h) }
+
+  pub next-value : x ≡ false → at ≤ length o → low < count → {j : ℕ} → j ≡ label paired low → NextAt o x paired count low at (Value at j)
+  next-value e h l q = rw (e, q) record { same = λ _. rw (lt-ltb low count l); past = (omega arith, h, omega arith, omega arith) }
+
+-- ---- the position after a value
+
+module _ {x : Bool} (j low : ℕ) where
+  pub low-indexed : x ≡ true → j + 1 ≡ nextLow x j low
+  low-indexed e = rw e (add-one j)
+
+  pub low-counted : x ≡ false → low + 1 ≡ nextLow x j low
+  low-counted e = rw e (add-one low)

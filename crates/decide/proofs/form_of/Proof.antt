@@ -1,0 +1,18 @@
+use mir.Syntax.{w32}
+use Rattle.integer.proofs.Signs.{held}
+use borrow.Author.Needs.{needs}
+use Rattle.decide.proofs.form_of.Statement.{statement}
+use Rattle.decide.proofs.form_of.Tie as tie
+use Rattle.decide.proofs.form_of.Reads as reads
+use Rattle.decide.proofs.form_of.Lts as lts
+
+-- src/lib.rt:234:9
+returns : tie.Need-returns
+returns c = rw (c .if1 .taken, held {w = w32} (c .before .fits .t))
+
+-- src/lib.rt:230:1
+returns-2 : tie.Need-returns-2
+returns-2 c = search needs
+
+pub form-of-spec : {M : Type 1} → statement M
+form-of-spec = tie.close (tie.spec returns returns-2)
