@@ -1,15 +1,20 @@
 -- Counting rows while reading: one turn of the loop over a container.
-use mathlib.Core.Path.{_≡_, refl, sym, ap, _∙_}
-use mathlib.Core.Bool.{Bool, true, false}
-use Prim.Native.Nat.{ℕ, zero, suc, _+_, _≤_}
+use mathlib.Core.Path.{_≡_, refl, sym, ap, ap₂, _∙_}
+use mathlib.Core.Bool.{Bool, true, false, cond}
+use Prim.Native.Nat.{ℕ, suc, _+_, _-_, _%_, _≤_}
 use native.Mathlib.Omega.{arith}
 use native.Mathlib.Nat.{add-zero}
+use lib.Dec.{ltb, eqb}
+use borrow.Author.Tests.{ltb-true, ltb-false, eqb-true, eqb-false}
 use Rattle.reading.specs.Reading.{State, Out, got, stop, Reader, follow, _>>=_, return}
 use Rattle.integer.specs.Packed.{wide32, integer}
-use Rattle.format.specs.Values.{Value, Children, childOf, Form, Rule, counted, rising, Inner, each, children}
+use Rattle.format.specs.Values.{Value, Children, childOf, Form, Rule, counted, rising, label, Inner, each, children}
 use Rattle.format.specs.Rows.{count}
+use Rattle.decide.specs.Forms.{turn}
+use Rattle.decide.specs.Gates.{Gate, halt, ends, go, indexGate, gate, nextLow}
 use Rattle.measure.specs.Tally.{plus, valueRows, childRows, onward, rest}
-use Rattle.measure.proofs.Turns.{Gate, halt, ends, go, indexGate, onGate, turns-none, turns-more, pairs-turn}
+use Rattle.measure.specs.Plans.{OneForm}
+use Rattle.measure.proofs.Turns.{onGate, turns-none, turns-more, pairs-turn}
 
 -- what is counted at a gate, where `again` is still expected after the value
 abbrev pub countGate : Inner → Form → (ℕ → Rule) → ℕ → Gate → Out ℕ
@@ -37,15 +42,6 @@ counted-turn inner r s f again g rows h = rw h (by g)
     by (ends s) = ap (λ (n : ℕ). got n s) (add-zero rows)
     by (go i s) = one (each inner f s) i
 
--- readings that count the same after a value count the same
-same-onward : (inner : Inner) (f : Form) (q r : Rule) (rows : ℕ) → ((s : State) → childRows inner q s ≡ childRows inner r s) → (s : State) → onward inner f q rows s ≡ onward inner f r rows s
-unfolding onward plus _>>=_
-same-onward inner f q r rows h s = by (plus rows (valueRows (each inner f)) s)
-  where
-    by : (x : Out ℕ) → follow x (λ k t. follow (childRows inner q t) (λ m. return (k + m))) ≡ follow x (λ k t. follow (childRows inner r t) (λ m. return (k + m)))
-    by (got k t) = ap (λ (y : Out ℕ). follow y (λ m. return (k + m))) (h t)
-    by (stop r) = refl
-
 pub plus-zero : (p : Reader ℕ) (s : State) → plus 0 p s ≡ p s
 unfolding plus _>>=_ return
 plus-zero p s = by (p s)
@@ -54,31 +50,46 @@ plus-zero p s = by (p s)
     by (got n t) = ap (λ (k : ℕ). got k t) (omega arith)
     by (stop r) = refl
 
+-- ---- by turns
+
+pub turn-next : {A : Type 0} (f g : A) (i : ℕ) → turn f g (suc i) ≡ turn g f i
+turn-next {A} f g i = by (eqb (i % 2) 0) refl
+  where
+    by : (b : Bool) → eqb (i % 2) 0 ≡ b → turn f g (suc i) ≡ turn g f i
+    by true e = let z = eqb-true (i % 2) 0 e in let o : suc i % 2 ≡ 1 = omega arith in rw (o, z)
+    by false e = let z = eqb-false (i % 2) 0 e in let n : i % 2 ≡ 1 = omega arith in let o : suc i % 2 ≡ 0 = omega arith in rw (o, n)
+
+pub turn-same : {A : Type 0} (f : A) (i : ℕ) → turn f f i ≡ f
+turn-same {A} f i = by (eqb (i % 2) 0)
+  where
+    by : (b : Bool) → cond b f f ≡ f
+    by true = refl
+    by false = refl
+
+-- ---- what a container still expects, by what comes next
+
 module _ (inner : Inner) where
-  -- counted values count the same whatever their labels
-  alike : (n : ℕ) (p q : Bool) (f g : Form) (i j : ℕ) (s : State) → childRows inner (counted p f g n i) s ≡ childRows inner (counted q f g n j) s
-  alike zero p q f g i j s = none p i ∙ sym (none q j)
+  counted-go : (p : Bool) (f g : Form) (n i rows : ℕ) (s : State) → plus rows (childRows inner (counted p f g (suc n) i)) s ≡ onward inner f (counted p g f n (suc i)) rows s
+  counted-go p f g n i rows s = counted-turn inner (counted p f g (suc n) i) s f (λ _. counted p g f n (suc i)) (go (label p i) s) rows (turns-more inner p f g n i s)
+
+  counted-none : (p : Bool) (f g : Form) (i rows : ℕ) (s : State) → plus rows (childRows inner (counted p f g 0 i)) s ≡ got rows s
+  counted-none p f g i rows s = counted-turn inner (counted p f g 0 i) s f (λ _. counted p f g 0 i) (ends s) rows (turns-none inner p f g i s)
+
+  pub rest-gate : (x p : Bool) (f g : Form) (count low rows : ℕ) (s : State) → low ≤ count → OneForm x f g
+      → plus rows (childRows inner (rest x p f g count low)) s ≡ countGate inner (turn f g low) (λ j. rest x p f g count (nextLow x j low)) rows (gate x p count low s)
+  rest-gate true p f g count low rows s h e =
+      counted-turn inner (rising f count low) s f (λ i. rising f count (suc i)) (indexGate (s .at) count low (integer wide32 s)) rows (pairs-turn inner f count low s h)
+      ∙ ap (λ (y : Form). countGate inner y (λ i. rising f count (suc i)) rows (indexGate (s .at) count low (integer wide32 s))) (sym (ap (λ (z : Form). turn f z low) (sym e) ∙ turn-same f low))
+  rest-gate false p f g count low rows s h e = by (ltb low count) refl
     where
-      none : (p : Bool) (i : ℕ) → childRows inner (counted p f g 0 i) s ≡ got 0 s
-      none p i = sym (plus-zero _ s) ∙ counted-turn inner (counted p f g 0 i) s f (λ _. counted p f g 0 i) (ends s) 0 (turns-none inner p f g i s)
-  alike (suc n) p q f g i j s = more p i ∙ same-onward inner f _ _ 0 (λ t. alike n p q g f (suc i) (suc j) t) s ∙ sym (more q j)
-    where
-      more : (p : Bool) (i : ℕ) → childRows inner (counted p f g (suc n) i) s ≡ onward inner f (counted p g f n (suc i)) 0 s
-      more p i = sym (plus-zero _ s) ∙ counted-turn inner (counted p f g (suc n) i) s f (λ _. counted p g f n (suc i)) (go _ s) 0 (turns-more inner p f g n i s)
-
-  pub rest-none : (f g : Form) (low rows : ℕ) (s : State) → plus rows (childRows inner (rest false f g 0 low)) s ≡ got rows s
-  rest-none f g low rows s = counted-turn inner (counted false f g 0 0) s f (λ _. counted false f g 0 0) (ends s) rows (turns-none inner false f g 0 s)
-
-  pub rest-more : (f g : Form) (left low low' rows : ℕ) (s : State) → plus rows (childRows inner (rest false f g (suc left) low)) s ≡ onward inner f (rest false g f left low') rows s
-  rest-more f g left low low' rows s =
-      counted-turn inner (counted false f g (suc left) 0) s f (λ _. counted false g f left 1) (go _ s) rows (turns-more inner false f g left 0 s)
-      ∙ same-onward inner f _ _ rows (alike left false false g f 1 0) s
-
-  pub rest-index : (f g : Form) (top low rows : ℕ) (s : State) → low ≤ top
-      → plus rows (childRows inner (rest true f g top low)) s ≡ countGate inner f (λ i. rest true f g top (suc i)) rows (indexGate (s .at) top low (integer wide32 s))
-  rest-index f g top low rows s h = counted-turn inner (rising f top low) s f (λ i. rising f top (suc i)) (indexGate (s .at) top low (integer wide32 s)) rows (pairs-turn inner f top low s h)
-
-  -- a container's rule by the loop's state
-  pub rest-start : (p : Bool) (f g : Form) (n i rows : ℕ) (s : State) → plus rows (childRows inner (counted p f g n i)) s ≡ plus rows (childRows inner (rest false f g n 0)) s
-  unfolding plus _>>=_
-  rest-start p f g n i rows s = ap (λ (x : Out ℕ). follow x (λ m. return (rows + m))) (alike n p false f g i 0 s)
+      by : (b : Bool) → ltb low count ≡ b → plus rows (childRows inner (rest false p f g count low)) s ≡ countGate inner (turn f g low) (λ j. rest false p f g count (suc low)) rows (cond b (go (label p low) s) (ends s))
+      by true q =
+          let l = ltb-true low count q in
+          let m : count - low ≡ suc (count - suc low) = omega arith in
+          ap (λ (n : ℕ). plus rows (childRows inner (counted p (turn f g low) (turn g f low) n low)) s) m
+          ∙ counted-go p (turn f g low) (turn g f low) (count - suc low) low rows s
+          ∙ ap₂ (λ (y z : Form). onward inner (turn f g low) (counted p y z (count - suc low) (suc low)) rows s) (sym (turn-next f g low)) (sym (turn-next g f low))
+      by false q =
+          let l = ltb-false low count q in
+          let m : count - low ≡ 0 = omega arith in
+          ap (λ (n : ℕ). plus rows (childRows inner (counted p (turn f g low) (turn g f low) n low)) s) m ∙ counted-none p (turn f g low) (turn g f low) low rows s

@@ -1,34 +1,43 @@
 -- The value reader and the container reader, step by step.
 use mathlib.Core.Path.{_≡_, refl, sym, ap, subst, _∙_}
-use mathlib.Core.Bool.{Bool, true, false}
+use mathlib.Core.Bool.{Bool, true, false, cond}
 use mathlib.Core.List.{List}
-use Prim.Native.Nat.{ℕ, suc, _+_, _-_, _*_, _^_, _<_, _≤_}
+use Prim.Native.Nat.{ℕ, suc, _+_, _-_, _*_, _%_, _^_, _<_, _≤_}
 use native.Mathlib.Omega.{arith}
 use lib.ListN.{length}
+use lib.Dec.{eqb}
 use lib.IntN.{ℤ}
+use lib.Signed.{mag}
+use mir.Syntax.{w32}
+use mir.Val.{toZ, ofZ}
+use Rattle.integer.proofs.Signs.{held}
 use Rattle.reading.specs.declared.Refusal.{Refusal}
-use Rattle.reading.specs.Reading.{Env, State, Out, got, stop, refusal, Reader, stand, follow, _>>=_, return, require, here, refuse, names, rename}
+use Rattle.reading.specs.Reading.{Env, State, Out, got, stop, refusal, Reader, stand, follow, _>>=_, return, require, refuse, names, rename}
 use Rattle.format.specs.Types.{Names, silent, refers, Kind, kindOf}
-use Rattle.format.specs.Values.{Form, whole, bare, Rule, Inner, may, begun, closed, leave, each, dataOf}
+use Rattle.format.specs.Values.{Rule, Inner, may, begun, closed, leave, each, dataOf}
+use Rattle.format.specs.Values.{Form as Forms}
 use Rattle.decide.specs.declared.Class.{Class}
 use Rattle.decide.specs.declared.Class.the-variants.{Refused, Small, Int, Fixed, Char, Holder, Identity, Reference}
 use Rattle.decide.specs.declared.Class.the-variants.{Text as Texted, Parts as Parted}
+use Rattle.decide.specs.declared.Form.{Form}
+use Rattle.decide.specs.declared.Typed.{Typed}
+use Rattle.decide.specs.declared.Typed.the-variants.{Standing as Typing, Untyped}
+use Rattle.decide.specs.declared.Next.{Next}
+use Rattle.decide.specs.declared.Next.the-variants.{Value, End, Halt}
 use Rattle.decide.specs.Classes.{Is, ClassOf}
-use Rattle.measure.specs.declared.Stand.{Stand}
-use Rattle.measure.specs.declared.Stand.the-variants.{Bare}
-use Rattle.measure.specs.declared.Head.the-variants.{Typing, Odd}
-use Rattle.measure.specs.declared.Nest.{Nest}
+use Rattle.decide.specs.Forms.{TypedAt, turn}
+use Rattle.decide.specs.Gates.{nextLow, nextOut, pastNext, NextAt}
+use Rattle.measure.specs.declared.Contents.{Contents}
 use Rattle.measure.specs.declared.Plan.{Plan}
 use Rattle.measure.specs.declared.Plan.the-variants.{Refuse, Single, Inner as Nested}
-use Rattle.measure.specs.declared.Gate.{Gate}
-use Rattle.measure.specs.declared.Gate.the-variants.{Halt, End, Go}
 use Rattle.measure.specs.declared.Step.{Step}
 use Rattle.measure.specs.declared.Step.the-variants.{On, Stop}
 use Rattle.measure.specs.Tally.{plus, valueRows, childRows, opening, inside, onward, rest}
-use Rattle.measure.specs.Gates.{Apt, OneForm, gateOut, pastGate, GateAt}
 use Rattle.measure.specs.Identities.{given, ended, envOf, nameOf, one, Ids, Begun, Closed}
-use Rattle.measure.specs.Plans.{Means, Stands, judged, NestIs, PlanIs, HeadAt, ValuePlan}
-use Rattle.measure.specs.Cycle.{TooDeep, DeepAt, stepOut, Going, CanRead, HasRead, Forms, CanHold, HasHeld}
+use Rattle.measure.specs.Plans.{onceOf, Stands, judged, NestIs, PlanIs, ValuePlan}
+use Rattle.measure.specs.Cycle.{TooDeep, DeepAt, stepOut, Going, CanRead, HasRead, Standing, CanHold, HasHeld}
+use Rattle.measure.proofs.Counts.{countGate, rest-gate}
+use Rattle.measure.proofs.Heads.{headed, odd}
 
 -- ---- level 17
 
@@ -91,19 +100,16 @@ deep-first {once} e = record { refuses = λ t own p s i. deep-kind once t own p 
 pub as-deep : {c k : Class} {once : Bool} {n : ℕ} → c ≡ k → TooDeep k once n → TooDeep c once n
 as-deep {once} {n} e d = subst (λ (x : Class). TooDeep x once n) (sym e) d
 
-pub deep-odd : {o : List ℕ} {w : Stand} {at : ℕ} {r : Refusal} → HeadAt o w at (Odd r) → DeepAt o w at r
-deep-odd h = record { refuses = λ f s v. h .is f s (dataOf 0) v }
+module _ {o : List ℕ} {w : Form} {at : ℕ} {x : Typed} (typed : TypedAt o w at x) where
+  pub deep-untyped : {r : Refusal} → x ≡ Untyped r → DeepAt o w at r
+  deep-untyped e = record { refuses = λ f s v. odd (subst (TypedAt o w at) e typed) f s (dataOf 0) v }
 
-pub deep-typed : {o : List ℕ} {w : Stand} {at from n : ℕ} {t : ℤ} {c : Class} {once : Bool} → HeadAt o w at (Typing from t once) → ClassOf t c → TooDeep c once n → DeepAt o w at (refusal n at)
-deep-typed {o} {at = at} {from = from} {t = t} h k d = record { refuses = λ f s v. let q = h .is f s in q .4 (dataOf 0) v ∙ d .refuses t (q .0) at (stand o from v) (k .is) }
-
-pub deep-bare : {o : List ℕ} {w : Stand} {at : ℕ} {t : ℤ} → w ≡ Bare t → DeepAt o w at (refusal 8 at)
-unfolding each _>>=_ here stand dataOf refuse
-deep-bare {o} {w} {at} {t} e = record { refuses = λ f s v. by f v (subst (λ (v : Stand). Means v f) e (s .means)) }
-  where
-    by : (f : Form) (v : Env) → Means (Bare t) f → each (dataOf 0) f (stand o at v) ≡ stop (refusal 8 at)
-    by (whole b) v m = absurd m
-    by (bare u) v m = refl
+  pub deep-typed : {from own n : ℕ} {z : ℤ} {c : Class} {once : Bool} → at ≤ length o → x ≡ Typing from own z → mag z < 2 ^ 31 → ClassOf (toZ w32 (ofZ w32 z)) c → once ≡ onceOf w → TooDeep c once n → DeepAt o w at (refusal n at)
+  deep-typed {from} {own} {n} {z} {c} {once} h e g k u d = record {
+    refuses = λ f s v.
+        headed h (subst (TypedAt o w at) e typed) f s .judges (dataOf 0) v
+        ∙ subst (λ (b : Bool). TooDeep c b n) u d .refuses z own at (stand o from v) (subst (λ (t : ℤ). ClassOf t c) (held (record { sfits = g })) k .is);
+  }
 
 -- ---- the value reader
 
@@ -128,7 +134,7 @@ same-plus : (rows : ℕ) (p : Reader ℕ) (q : Out ℕ) {s : State} → p s ≡ 
 unfolding plus _>>=_
 same-plus rows p q h = rw h
 
-module _ (o l : List ℕ) (w : Stand) (at rows depth : ℕ) where
+module _ (o l : List ℕ) (w : Form) (at rows depth : ℕ) where
   pub value-deep : {r : Refusal} {after : List ℕ} → depth ≡ 0 → DeepAt o w at r → HasRead o l w at rows depth (Stop r) after
   unfolding valueRows _>>=_
   value-deep {r} e d = rw e record { same = λ f s. sym (plus-stop rows (valueRows (each (dataOf 0) f)) (rw (d .refuses f s (envOf l)))); going = tt }
@@ -150,8 +156,8 @@ module _ (o l : List ℕ) (w : Stand) (at rows depth : ℕ) where
       going = (q .0, q .1, omega (arith, q .0, q .2, can .few), can .good, refl);
     }
 
-    module _ {n : Nest} (e : p ≡ Nested n) where
-      nest-of : (f : Form) → Stands w f → NestIs o l (at + 1) n (λ lv. valueRows (each (dataOf (suc lv)) f) (stand o at (envOf l)))
+    module _ {n : Contents} (e : p ≡ Nested n) where
+      nest-of : (f : Forms) → Stands w f → NestIs o l (at + 1) n (λ lv. valueRows (each (dataOf (suc lv)) f) (stand o at (envOf l)))
       nest-of f s = subst (PlanIs o l (at + 1) _) e (plan .plan f s)
 
       pub value-can-hold : CanRead o l w at rows → CanHold o l n (rows + 1)
@@ -161,6 +167,7 @@ module _ (o l : List ℕ) (w : Stand) (at rows depth : ℕ) where
         good = can .good;
         room = k .room;
         short = can .short;
+        small = k .few;
         forms = (k .form-is, k .other-is, record { first = k .form-stands; second = k .other-stands; alike = k .one-form });
       }
 
@@ -179,90 +186,95 @@ module _ (o l : List ℕ) (w : Stand) (at rows depth : ℕ) where
 
 -- ---- the container reader
 
+stands-turn : {w v : Form} {f g : Forms} (i : ℕ) → Stands w f → Stands v g → Stands (turn w v i) (turn f g i)
+stands-turn {w} {v} {f} {g} i a b = by (eqb (i % 2) 0)
+  where
+    by : (t : Bool) → Stands (cond t w v) (cond t f g)
+    by true = a
+    by false = b
+
 -- the loop: what was to be counted at its start is what is still to be counted
-pub record Turning (o l₀ : List ℕ) (depth : ℕ) (x : Bool) (at₀ left₀ : ℕ) (w₀ v₀ : Stand) (rows₀ : ℕ) (l : List ℕ) (at left : ℕ) (w v : Stand) (low rows : ℕ) : Type 0 where
-  pub same : (f g : Form) → Forms w₀ v₀ x f g → (f' : Form) × (g' : Form) × Forms w v x f' g'
-      × (plus rows₀ (childRows (dataOf depth) (rest x f g left₀ 0)) (stand o at₀ (envOf l₀)) ≡ plus rows (childRows (dataOf depth) (rest x f' g' left low)) (stand o at (envOf l)))
+pub record Turning (o l₀ : List ℕ) (depth : ℕ) (x p : Bool) (count : ℕ) (w v : Form) (at₀ rows₀ : ℕ) (l : List ℕ) (at low rows : ℕ) : Type 0 where
+  pub same : (f g : Forms) → Standing w v x f g
+      → plus rows₀ (childRows (dataOf depth) (rest x p f g count 0)) (stand o at₀ (envOf l₀)) ≡ plus rows (childRows (dataOf depth) (rest x p f g count low)) (stand o at (envOf l))
   pub further : at₀ ≤ at
   pub within : at ≤ length o
   pub few : rows ≤ 11 * at
-  pub apt : Apt x left low
+  pub apt : low ≤ count
+  pub small : count < 2 ^ 32
   pub good : Ids l
   pub level : given l + ended l₀ ≡ given l₀ + ended l
   pub short : length o ≤ 65535
-  pub forms : (f : Form) × (g : Form) × Forms w v x f g
+  pub forms : (f : Forms) × (g : Forms) × Standing w v x f g
 
-apt-zero : (x : Bool) (left : ℕ) → Apt x left 0
-apt-zero true left = omega arith
-apt-zero false left = tt
-
-pub turning-first : {o l l₀ : List ℕ} {n : Nest} {before depth : ℕ} → CanHold o l n before → Begun l (n .named) (n .id) l₀
-    → Turning o l₀ depth (n .indexed) (n .from) (n .count) (n .form) (n .other) before l₀ (n .from) (n .count) (n .form) (n .other) 0 before
+pub turning-first : {o l l₀ : List ℕ} {n : Contents} {before depth : ℕ} → CanHold o l n before → Begun l (n .named) (n .id) l₀
+    → Turning o l₀ depth (n .nest .indexed) (n .nest .paired) (n .nest .count) (n .nest .form) (n .nest .other) (n .from) before l₀ (n .from) 0 before
 turning-first {n} can b = record {
-  same = λ f g h. (f, g, h, refl);
+  same = λ f g h. refl;
   further = omega arith;
   within = can .within;
   few = can .few;
-  apt = apt-zero (n .indexed) (n .count);
+  apt = omega arith;
+  small = can .small;
   good = b .good;
   level = refl;
   short = can .short;
   forms = can .forms;
 }
 
-module _ {o l₀ : List ℕ} {depth : ℕ} {x : Bool} {at₀ left₀ : ℕ} {w₀ v₀ : Stand} {rows₀ : ℕ} {l : List ℕ} {at left : ℕ} {w v : Stand} {low rows : ℕ}
-    (turn : Turning o l₀ depth x at₀ left₀ w₀ v₀ rows₀ l at left w v low rows) {g : Gate} (gate : GateAt o x at left low g) where
+module _ {o l₀ : List ℕ} {depth : ℕ} {x p : Bool} {count : ℕ} {w v : Form} {at₀ rows₀ : ℕ} {l : List ℕ} {at low rows : ℕ}
+    (turning : Turning o l₀ depth x p count w v at₀ rows₀ l at low rows) {g : Next} (gates : NextAt o x p count low at g) where
   -- at the gate
-  at-gate : (f h : Form) → Forms w₀ v₀ x f h → (f' : Form) × (h' : Form) × Forms w v x f' h'
-      × (plus rows₀ (childRows (dataOf depth) (rest x f h left₀ 0)) (stand o at₀ (envOf l₀)) ≡ gateOut o (envOf l) (dataOf depth) x f' h' rows g)
-  at-gate f h k = let t = turn .same f h k in (t .0, t .1, t .2, t .3 ∙ sym (gate .same (envOf l) (dataOf depth) (t .0) (t .1) rows (t .2 .alike)))
+  at-gate : (f h : Forms) → Standing w v x f h
+      → plus rows₀ (childRows (dataOf depth) (rest x p f h count 0)) (stand o at₀ (envOf l₀)) ≡ countGate (dataOf depth) (turn f h low) (λ j. rest x p f h count (nextLow x j low)) rows (nextOut o (envOf l) g)
+  at-gate f h k =
+      turning .same f h k ∙ rest-gate (dataOf depth) x p f h count low rows (stand o at (envOf l)) (turning .apt) (k .alike)
+      ∙ ap (countGate (dataOf depth) (turn f h low) (λ j. rest x p f h count (nextLow x j low)) rows) (sym (gates .same (envOf l)))
 
-  pub turning-can-read : {next left' low' : ℕ} → g ≡ Go next left' low' → CanRead o l w next rows
-  turning-can-read e = let q = subst (pastGate o at x) e (gate .past) in record {
-    within = q .1;
-    few = omega (arith, q .0, turn .few);
-    good = turn .good;
-    short = turn .short;
-    stands = (turn .forms .0, turn .forms .2 .first);
-  }
+  module _ {next j : ℕ} (e : g ≡ Value next j) where
+    past : pastNext o x count low at (Value next j)
+    past = subst (pastNext o x count low at) e (gates .past)
 
-  swapped : {f h : Form} → Forms w v x f h → Forms v w x h f
-  swapped {f} {h} k = record { first = k .second; second = k .first; alike = by x (k .alike) }
-    where
-      by : (y : Bool) → OneForm y f h → OneForm y h f
-      by true e = sym e
-      by false e = tt
+    pub low-fits : nextLow x j low < 2 ^ 32
+    low-fits = omega (arith, past .3, turning .small)
 
-  module _ {next left' low' : ℕ} (e : g ≡ Go next left' low') {r : Step} {after : List ℕ} (read : HasRead o l w next rows depth r after) where
-    -- after the value
-    after-value : (f h : Form) → Forms w₀ v₀ x f h → (f' : Form) × (h' : Form) × Forms w v x f' h'
-        × (plus rows₀ (childRows (dataOf depth) (rest x f h left₀ 0)) (stand o at₀ (envOf l₀)) ≡ follow (stepOut o (envOf after) r) (λ k. plus k (childRows (dataOf depth) (rest x h' f' left' low'))))
-    unfolding onward _>>=_
-    after-value f h k = let t = at-gate f h k in
-        (t .0, t .1, t .2, t .3 ∙ ap (gateOut o (envOf l) (dataOf depth) x (t .0) (t .1) rows) e ∙ ap (λ (y : Out ℕ). follow y (λ k. plus k (childRows (dataOf depth) (rest x (t .1) (t .0) left' low')))) (sym (read .same (t .0) (t .2 .first))))
+    pub turning-less : {low' : ℕ} → low' ≡ nextLow x j low → count - low' < count - low
+    turning-less z = omega (arith, past .2, past .3)
 
-    pub turning-again : {there more : ℕ} → r ≡ On there more → Turning o l₀ depth x at₀ left₀ w₀ v₀ rows₀ after there left' v w low' more
-    turning-again {there} {more} d =
-        let q = subst (pastGate o at x) e (gate .past) in
-        let z = subst (Going o l after (next + 1)) d (read .going) in
-        record {
-          same = λ f h k. let t = after-value f h k in
-              (t .1, t .0, swapped (t .2), t .3 ∙ ap (λ (y : Step). follow (stepOut o (envOf after) y) (λ k. plus k (childRows (dataOf depth) (rest x (t .1) (t .0) left' low')))) d);
-          further = omega (arith, turn .further, q .0, z .0);
-          within = z .1;
-          few = z .2;
-          apt = q .2;
-          good = z .3;
-          level = omega (arith, turn .level, z .4);
-          short = turn .short;
-          forms = (turn .forms .1, turn .forms .0, swapped (turn .forms .2));
-        }
+    module _ {t : Form} (is-turn : t ≡ turn w v low) where
+      pub turning-can-read : CanRead o l t next rows
+      turning-can-read = rw is-turn record {
+        within = past .1;
+        few = omega (arith, past .0, turning .few);
+        good = turning .good;
+        short = turning .short;
+        stands = (turn (turning .forms .0) (turning .forms .1) low, stands-turn low (turning .forms .2 .first) (turning .forms .2 .second));
+      }
 
-    pub turning-less : {there more : ℕ} → r ≡ On there more → length o - there < length o - at
-    turning-less d =
-        let q = subst (pastGate o at x) e (gate .past) in
-        let z = subst (Going o l after (next + 1)) d (read .going) in
-        omega (arith, q .0, z .0, z .1)
+      module _ {r : Step} {after : List ℕ} (read : HasRead o l t next rows depth r after) where
+        -- after the value
+        after-value : (f h : Forms) → Standing w v x f h
+            → plus rows₀ (childRows (dataOf depth) (rest x p f h count 0)) (stand o at₀ (envOf l₀)) ≡ follow (stepOut o (envOf after) r) (λ k. plus k (childRows (dataOf depth) (rest x p f h count (nextLow x j low))))
+        unfolding onward _>>=_
+        after-value f h k =
+            at-gate f h k ∙ ap (λ (y : Next). countGate (dataOf depth) (turn f h low) (λ j. rest x p f h count (nextLow x j low)) rows (nextOut o (envOf l) y)) e
+            ∙ ap (λ (y : Out ℕ). follow y (λ k. plus k (childRows (dataOf depth) (rest x p f h count (nextLow x j low))))) (sym (read .same (turn f h low) (rw is-turn (stands-turn low (k .first) (k .second)))))
+
+        pub turning-again : {there more low' : ℕ} → r ≡ On there more → low' ≡ nextLow x j low → Turning o l₀ depth x p count w v at₀ rows₀ after there low' more
+        turning-again {there} {more} d z =
+            let q = subst (Going o l after (next + 1)) d (read .going) in
+            rw z record {
+              same = λ f h k. after-value f h k ∙ ap (λ (y : Step). follow (stepOut o (envOf after) y) (λ k. plus k (childRows (dataOf depth) (rest x p f h count (nextLow x j low))))) d;
+              further = omega (arith, turning .further, past .0, q .0);
+              within = q .1;
+              few = q .2;
+              apt = past .3;
+              small = turning .small;
+              good = q .3;
+              level = omega (arith, turning .level, q .4);
+              short = turning .short;
+              forms = turning .forms;
+            }
 
 -- ---- the container's end
 
@@ -271,41 +283,45 @@ pub inside-opened : (inner : Inner) (y : Names) (n : ℕ) (r : Rule) (rows : ℕ
 unfolding inside opening _>>=_ names rename stand
 inside-opened inner y n r rows o at e = refl
 
-module _ {o l l₀ : List ℕ} {n : Nest} {before : ℕ} (depth : ℕ) (can : CanHold o l n before) (b : Begun l (n .named) (n .id) l₀) where
+module _ {o l l₀ : List ℕ} {n : Contents} {before : ℕ} (depth : ℕ) (can : CanHold o l n before) (b : Begun l (n .named) (n .id) l₀) where
+  abbrev expects : Forms → Forms → ℕ → Rule
+  expects f g low = rest (n .nest .indexed) (n .nest .paired) f g (n .nest .count) low
+
   -- what the container counts, by what its loop counts
-  held-by : (f g : Form) (x : Out ℕ) → plus before (childRows (dataOf depth) (rest (n .indexed) f g (n .count) 0)) (stand o (n .from) (envOf l₀)) ≡ x
-      → follow x (λ k. leave (nameOf (n .named)) (n .id) >>= λ _. return k) ≡ inside (dataOf depth) (nameOf (n .named)) (n .id) (rest (n .indexed) f g (n .count) 0) before (stand o (n .from) (envOf l))
+  held-by : (f g : Forms) (x : Out ℕ) → plus before (childRows (dataOf depth) (expects f g 0)) (stand o (n .from) (envOf l₀)) ≡ x
+      → follow x (λ k. leave (nameOf (n .named)) (n .id) >>= λ _. return k) ≡ inside (dataOf depth) (nameOf (n .named)) (n .id) (expects f g 0) before (stand o (n .from) (envOf l))
   held-by f g x h = sym (
-      inside-opened (dataOf depth) (nameOf (n .named)) (n .id) (rest (n .indexed) f g (n .count) 0) before o (n .from) (envOf l)
-      ∙ ap (λ (e : Env). follow (plus before (childRows (dataOf depth) (rest (n .indexed) f g (n .count) 0)) (stand o (n .from) e)) (λ k. leave (nameOf (n .named)) (n .id) >>= λ _. return k)) (sym (b .env-is))
+      inside-opened (dataOf depth) (nameOf (n .named)) (n .id) (expects f g 0) before o (n .from) (envOf l)
+      ∙ ap (λ (e : Env). follow (plus before (childRows (dataOf depth) (expects f g 0)) (stand o (n .from) e)) (λ k. leave (nameOf (n .named)) (n .id) >>= λ _. return k)) (sym (b .env-is))
       ∙ ap (λ (y : Out ℕ). follow y (λ k. leave (nameOf (n .named)) (n .id) >>= λ _. return k)) h
       )
 
-  module _ {l' : List ℕ} {at left : ℕ} {w v : Stand} {low rows : ℕ}
-      (turn : Turning o l₀ depth (n .indexed) (n .from) (n .count) (n .form) (n .other) before l' at left w v low rows) {g : Gate} (gate : GateAt o (n .indexed) at left low g) where
+  module _ {l' : List ℕ} {at low rows : ℕ}
+      (turning : Turning o l₀ depth (n .nest .indexed) (n .nest .paired) (n .nest .count) (n .nest .form) (n .nest .other) (n .from) before l' at low rows)
+      {g : Next} (gates : NextAt o (n .nest .indexed) (n .nest .paired) (n .nest .count) low at g) where
+    gated : (f h : Forms) → Standing (n .nest .form) (n .nest .other) (n .nest .indexed) f h → {y : Next} → g ≡ y
+        → plus before (childRows (dataOf depth) (expects f h 0)) (stand o (n .from) (envOf l₀)) ≡ countGate (dataOf depth) (turn f h low) (λ j. expects f h (nextLow (n .nest .indexed) j low)) rows (nextOut o (envOf l') y)
+    gated f h k e = at-gate turning gates f h k ∙ ap (λ (y : Next). countGate (dataOf depth) (turn f h low) (λ j. expects f h (nextLow (n .nest .indexed) j low)) rows (nextOut o (envOf l') y)) e
+
     pub held-halted : {r : Refusal} → g ≡ Halt r → HasHeld o l n before depth (Stop r) l'
-    held-halted {r} e = record {
-      same = λ f h k. let t = at-gate turn gate f h k in held-by f h (stop r) (t .3 ∙ ap (gateOut o (envOf l') (dataOf depth) (n .indexed) (t .0) (t .1) rows) e);
-      going = tt;
-    }
+    held-halted {r} e = record { same = λ f h k. held-by f h (stop r) (gated f h k e); going = tt }
 
     pub can-end : Ids l' × (ended l' + one (n .named) ≤ given l')
-    can-end = (turn .good, omega (arith, turn .level, b .more, b .as-many, can .good .some))
+    can-end = (turning .good, omega (arith, turning .level, b .more, b .as-many, can .good .some))
 
     pub held-ended : {next : ℕ} {after : List ℕ} → g ≡ End next → Closed l' (n .named) (n .id) after → HasHeld o l n before depth (On next rows) after
     unfolding leave _>>=_ return names rename stand
     held-ended {next} {after} e c =
-        let q = subst (pastGate o at (n .indexed)) e (gate .past) in
+        let q = subst (pastNext o (n .nest .indexed) (n .nest .count) low at) e (gates .past) in
         record {
-          same = λ f h k. let t = at-gate turn gate f h k in
-              ap (λ (z : Env). got rows (stand o next z)) (c .env-is) ∙ held-by f h (got rows (stand o next (envOf l'))) (t .3 ∙ ap (gateOut o (envOf l') (dataOf depth) (n .indexed) (t .0) (t .1) rows) e);
-          going = (omega (arith, turn .further, q .0), q .1, omega (arith, turn .few, q .0), c .good, omega (arith, turn .level, b .more, b .as-many, c .as-many, c .more));
+          same = λ f h k. ap (λ (z : Env). got rows (stand o next z)) (c .env-is) ∙ held-by f h (got rows (stand o next (envOf l'))) (gated f h k e);
+          going = (omega (arith, turning .further, q .0), q .1, omega (arith, turning .few, q .0), c .good, omega (arith, turning .level, b .more, b .as-many, c .as-many, c .more));
         }
 
-    pub held-stopped : {next left' low' : ℕ} {r : Step} {after : List ℕ} {q : Refusal} → g ≡ Go next left' low' → HasRead o l' w next rows depth r after → r ≡ Stop q → HasHeld o l n before depth (Stop q) after
-    held-stopped {next} {left'} {low'} {r} {after} {q} e read d = record {
-      same = λ f h k. let t = after-value turn gate e read f h k in
-          held-by f h (stop q) (t .3 ∙ ap (λ (y : Step). follow (stepOut o (envOf after) y) (λ k. plus k (childRows (dataOf depth) (rest (n .indexed) (t .1) (t .0) left' low')))) d);
+    pub held-stopped : {next j : ℕ} {t : Form} {r : Step} {after : List ℕ} {q : Refusal} → g ≡ Value next j → t ≡ turn (n .nest .form) (n .nest .other) low
+        → HasRead o l' t next rows depth r after → r ≡ Stop q → HasHeld o l n before depth (Stop q) after
+    held-stopped {next} {j} {t} {r} {after} {q} e u read d = record {
+      same = λ f h k. held-by f h (stop q) (after-value turning gates e u read f h k ∙ ap (λ (y : Step). follow (stepOut o (envOf after) y) (λ k. plus k (childRows (dataOf depth) (expects f h (nextLow (n .nest .indexed) j low))))) d);
       going = tt;
     }
 
@@ -320,8 +336,8 @@ sinks d h n = omega arith
 pub some-level : {d : ℕ} → (d ≡ 0 → ⊥) → 0 < d
 some-level h = omega arith
 
-pub rows-fit : {o l : List ℕ} {w : Stand} {at rows : ℕ} → CanRead o l w at rows → rows + 1 < 2 ^ 64
+pub rows-fit : {o l : List ℕ} {w : Form} {at rows : ℕ} → CanRead o l w at rows → rows + 1 < 2 ^ 64
 rows-fit c = omega (arith, c .few, c .within, c .short)
 
-pub parts-fit : {o l : List ℕ} {w : Stand} {at rows next parts : ℕ} {p : Plan} → CanRead o l w at rows → ValuePlan o l w at p → p ≡ Single next parts → rows + 1 + parts < 2 ^ 64
+pub parts-fit : {o l : List ℕ} {w : Form} {at rows next parts : ℕ} {p : Plan} → CanRead o l w at rows → ValuePlan o l w at p → p ≡ Single next parts → rows + 1 + parts < 2 ^ 64
 parts-fit {o} {l} {at} c plan e = let q = subst (PlanIs o l (at + 1) _) e (plan .plan (c .stands .0) (c .stands .1)) in omega (arith, q .2, c .few, c .within, c .short)

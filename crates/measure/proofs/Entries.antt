@@ -1,5 +1,5 @@
 -- The outermost value, and what is left after it.
-use mathlib.Core.Path.{_≡_, refl, sym, ap, _∙_}
+use mathlib.Core.Path.{_≡_, refl, sym, ap, subst, _∙_}
 use mathlib.Core.Bool.{false}
 use mathlib.Core.List.{List}
 use mathlib.Core.Logic.{_⊎_, inl, inr}
@@ -14,22 +14,20 @@ use Rattle.format.specs.Values.{Value, Form, whole, Inner, leave, each, dataOf,
 use Rattle.format.specs.Rows.{count, rows}
 use Rattle.format.specs.Message.{Answer, ok, refused, then, answer, mostOctets, ends, wholeMessage, message, firstLength, measure}
 use Rattle.format.proofs.Counts.{value-rows, reading-long, reading-short}
-use Rattle.measure.specs.declared.Stand.the-variants.{Whole}
-use Rattle.measure.specs.declared.Nest.{Nest}
+use Rattle.decide.specs.declared.Form.the-variants.{Whole}
+use Rattle.decide.specs.declared.Nest.{Nest}
+use Rattle.decide.specs.Forms.{alikeNest}
 use Rattle.measure.specs.declared.Step.{Step}
 use Rattle.measure.specs.declared.Step.the-variants.{On, Stop}
 use Rattle.measure.specs.declared.Measured.{Measured}
 use Rattle.measure.specs.declared.Measured.the-variants.{Amount, Refused}
 use Rattle.measure.specs.Tally.{plus, valueRows, childRows, inside, onward, rest}
 use Rattle.measure.specs.Identities.{given, ended, envOf, listed}
-use Rattle.measure.specs.Cycle.{stepOut, Going, Forms, CanHold, HasHeld}
+use Rattle.measure.specs.Cycle.{stepOut, Going, Standing, CanHold, HasHeld}
+use Rattle.measure.specs.Plans.{contentsOf}
 use Rattle.measure.specs.Entries.{none, pastFirst, FirstAt, Outermost, answerOf, rowsNeeded}
-use Rattle.measure.proofs.Counts.{rest-none, rest-more, plus-zero}
+use Rattle.measure.proofs.Counts.{rest-gate, plus-zero}
 use Rattle.measure.proofs.Cycle.{inside-opened}
-
--- the outermost value as the one element of a container
-abbrev pub alone : ℕ → Nest
-alone at = record { indexed = false; named = false; id = 0; form = Whole false; other = Whole false; count = 1; from = at }
 
 -- no identities
 pub record Fresh (l : List ℕ) : Type 0 where
@@ -41,34 +39,35 @@ fresh-env : {l : List ℕ} → Fresh l → envOf l ≡ none
 unfolding envOf listed
 fresh-env {l} f = rw (f .no-given, f .no-ended)
 
-whole-forms : Forms (Whole false) (Whole false) false (whole false) (whole false)
+whole-forms : Standing Whole Whole false (whole false) (whole false)
 whole-forms = record { first = record { means = refl }; second = record { means = refl }; alike = tt }
 
-pub first-can-hold : {o l : List ℕ} {at : ℕ} → at ≤ length o → length o ≤ 65535 → Fresh l → CanHold o l (alone at) 0
-first-can-hold {o} {l} {at} h s f = record {
+pub first-can-hold : {o l : List ℕ} {at : ℕ} {k : Nest} → k ≡ alikeNest Whole 1 false → at ≤ length o → length o ≤ 65535 → Fresh l → CanHold o l (contentsOf k at) 0
+first-can-hold {o} {l} {at} q h s f = rw q record {
   within = h;
   few = omega arith;
   good = record { long = f .long; few = omega (arith, f .no-given); some = omega (arith, f .no-given, f .no-ended) };
   room = omega (arith, f .no-given);
   short = s;
+  small = omega arith;
   forms = (whole false, whole false, whole-forms);
 }
 
-one-inside : (inner : Inner) (f : Form) (o : List ℕ) (at : ℕ) (e : Env) → inside inner silent 0 (rest false f f 1 0) 0 (stand o at e) ≡ valueRows (each inner f) (stand o at e)
+one-inside : (inner : Inner) (f : Form) (o : List ℕ) (at : ℕ) (e : Env) → inside inner silent 0 (rest false false f f 1 0) 0 (stand o at e) ≡ valueRows (each inner f) (stand o at e)
 unfolding onward _>>=_ leave names rename return
 one-inside inner f o at e =
-    inside-opened inner silent 0 (rest false f f 1 0) 0 o at e
-    ∙ ap (λ (x : Out ℕ). follow x (λ k. leave silent 0 >>= λ _. return k)) (rest-more inner f f 0 0 0 0 (stand o at e))
-    ∙ ap (λ (x : Out ℕ). follow (follow x (λ k. plus k (childRows inner (rest false f f 0 0)))) (λ k. leave silent 0 >>= λ _. return k)) (plus-zero (valueRows (each inner f)) (stand o at e))
+    inside-opened inner silent 0 (rest false false f f 1 0) 0 o at e
+    ∙ ap (λ (x : Out ℕ). follow x (λ k. leave silent 0 >>= λ _. return k)) (rest-gate inner false false f f 1 0 0 (stand o at e) (omega arith) tt)
+    ∙ ap (λ (x : Out ℕ). follow (follow x (λ k. plus k (childRows inner (rest false false f f 1 1)))) (λ k. leave silent 0 >>= λ _. return k)) (plus-zero (valueRows (each inner f)) (stand o at e))
     ∙ by (valueRows (each inner f) (stand o at e))
   where
-    by : (x : Out ℕ) → follow (follow x (λ k. plus k (childRows inner (rest false f f 0 0)))) (λ k. leave silent 0 >>= λ _. return k) ≡ x
-    by (got n s) = ap (λ (x : Out ℕ). follow x (λ k. leave silent 0 >>= λ _. return k)) (rest-none inner f f 0 n s)
+    by : (x : Out ℕ) → follow (follow x (λ k. plus k (childRows inner (rest false false f f 1 1)))) (λ k. leave silent 0 >>= λ _. return k) ≡ x
+    by (got n s) = ap (λ (x : Out ℕ). follow x (λ k. leave silent 0 >>= λ _. return k)) (rest-gate inner false false f f 1 1 n s (omega arith) tt)
     by (stop r) = refl
 
-pub first-held : {o l after : List ℕ} {at : ℕ} {r : Step} → Fresh l → HasHeld o l (alone at) 0 16 r after → FirstAt o at r
+pub first-held : {o l after : List ℕ} {at : ℕ} {k : Nest} {r : Step} → k ≡ alikeNest Whole 1 false → Fresh l → HasHeld o l (contentsOf k at) 0 16 r after → FirstAt o at r
 unfolding outermost
-first-held {o} {l} {after} {at} {r} f h = record {
+first-held {o} {l} {after} {at} {k} {r} q f held = let h = subst (λ (y : Nest). HasHeld o l (contentsOf y at) 0 16 r after) q held in record {
   after = envOf after;
   same = h .same (whole false) (whole false) whole-forms ∙ one-inside (dataOf 16) (whole false) o at (envOf l) ∙ ap (λ (e : Env). valueRows outermost (stand o at e)) (fresh-env f);
   past = by r (h .going);

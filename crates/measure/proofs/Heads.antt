@@ -2,52 +2,44 @@
 use mathlib.Core.Path.{_≡_, refl, sym, ap, subst, _∙_}
 use mathlib.Core.Bool.{Bool, true, false, _&&_}
 use mathlib.Core.List.{List}
-use mathlib.Core.Logic.{inl, inr}
-use Prim.Native.Nat.{ℕ, _^_, _<_, _≤_}
+use mathlib.Core.Logic.{_⊎_, inl, inr}
+use Prim.Native.Nat.{ℕ, _<_, _≤_}
 use native.Mathlib.Omega.{arith}
 use lib.ListN.{length}
 use lib.IntN.{ℤ, negsuc}
-use lib.Signed.{mag, ltZ}
-use mir.Syntax.{w32}
-use mir.Val.{toZ, ofZ}
+use lib.Signed.{ltZ}
 use Rattle.reading.specs.declared.Refusal.{Refusal}
-use Rattle.reading.specs.Reading.{Env, State, Out, stand, follow, _>>=_, require, here}
-use Rattle.integer.specs.declared.Read32.{Read32}
-use Rattle.integer.specs.declared.Read32.the-variants.{Int32, Refused32}
-use Rattle.integer.specs.Answers.{out32, past32, Reads32}
-use Rattle.integer.proofs.Signs.{held}
+use Rattle.reading.specs.Reading.{Env, State, Out, got, stop, stand, follow, _>>=_, here, require}
+use Rattle.integer.specs.Packed.{wide32, integer}
 use Rattle.format.specs.Types.{kindOf}
-use Rattle.format.specs.Values.{Form, whole, bare, Inner, each}
+use Rattle.format.specs.Values.{whole, bare, Inner, each}
+use Rattle.format.specs.Values.{Form as Forms}
+use Rattle.decide.specs.declared.Form.{Form}
+use Rattle.decide.specs.declared.Form.the-variants.{Whole, Named, Bare}
+use Rattle.decide.specs.declared.Typed.the-variants.{Standing, Untyped}
 use Rattle.decide.specs.Classes.{elementary}
-use Rattle.measure.specs.declared.Stand.{Stand}
-use Rattle.measure.specs.declared.Stand.the-variants.{Whole, Bare}
-use Rattle.measure.specs.declared.Head.{Head}
-use Rattle.measure.specs.declared.Head.the-variants.{Typing, Odd}
-use Rattle.measure.specs.Plans.{Means, judged, HeadIs, pastHead, HeadAt, IdentifierAt}
+use Rattle.decide.specs.Forms.{IdentifierIs, BareIs, TypedIs, TypedAt}
+use Rattle.measure.specs.Plans.{onceOf, Means, Stands, judged}
 
-module _ (once : Bool) {o : List ℕ} {at : ℕ} {x : Read32} (reads : Reads32 o at x) where
-  by-identifier : (inner : Inner) (e : Env) → each inner (whole once) (stand o at e) ≡ follow (out32 o e x) (λ t. judged inner once t 1 at)
-  unfolding each judged _>>=_ here stand
-  by-identifier inner e = ap (λ (y : Out ℤ). follow y (λ t. judged inner once t 1 at)) (sym (reads .same e))
+-- a value in a form f at a place, whose data are read from another place on: the type is judged there, and lies before its data or is an element type
+pub record Headed (o : List ℕ) (f : Forms) (at from own : ℕ) (t : ℤ) (once : Bool) : Type 0 where
+  pub further : at ≤ from
+  pub within : from ≤ length o
+  pub later : (at < from) ⊎ (elementary t ≡ true)
+  pub judges : (inner : Inner) (e : Env) → each inner f (stand o at e) ≡ judged inner once t own at (stand o from e)
 
-  pub identifier-typed : {from : ℕ} {z : ℤ} → x ≡ Int32 from z → mag z < 2 ^ 31 → IdentifierAt o once at (Typing from (toZ w32 (ofZ w32 z)) once)
-  identifier-typed {from} {z} h f = let q = subst (past32 o at) h (reads .past) in
-      rw (held {w = w32} {z = z} (record { sfits = f })) record { is = (1, omega (arith, q .0), q .1, inl (q .0), λ inner e. by-identifier inner e ∙ rw h) }
+-- by the identifier
+by-identifier : (once : Bool) (o : List ℕ) (at : ℕ) (inner : Inner) (e : Env) → each inner (whole once) (stand o at e) ≡ follow (integer wide32 (stand o at e)) (λ t. judged inner once t 1 at)
+unfolding each judged _>>=_ here stand
+by-identifier once o at inner e = refl
 
-  pub identifier-odd : {r : Refusal} → x ≡ Refused32 r → IdentifierAt o once at (Odd r)
-  identifier-odd h = record { is = λ inner e. by-identifier inner e ∙ rw h }
-
--- by how the value stands
-past-head : (o : List ℕ) (once : Bool) (at : ℕ) (r : Head) → HeadIs o (whole once) at r → pastHead o r
-past-head o once at (Typing from t b) i = i .2
-past-head o once at (Odd r) i = tt
-
-pub head-whole : {o : List ℕ} {w : Stand} {once : Bool} {at : ℕ} {r : Head} → w ≡ Whole once → IdentifierAt o once at r → HeadAt o w at r
-head-whole {o} {w} {once} {at} {r} e i = record { is = λ f s. by f (subst (λ (v : Stand). Means v f) e (s .means)); past = past-head o once at r (i .is) }
-  where
-    by : (f : Form) → Means (Whole once) f → HeadIs o f at r
-    by (whole b) m = subst (λ (b : Bool). HeadIs o (whole b) at r) m (i .is)
-    by (bare t) m = absurd m
+whole-headed : (once : Bool) {o : List ℕ} {at from own : ℕ} {t : ℤ} → IdentifierIs o at (Standing from own t) → Headed o (whole once) at from own t once
+whole-headed once {o} {at} {from} {own} {t} i = record {
+  further = omega (arith, i .1);
+  within = i .2;
+  later = inl (i .1);
+  judges = λ inner e. by-identifier once o at inner e ∙ ap (λ (y : Out ℤ). follow y (λ t. judged inner once t 1 at)) (i .3 e) ∙ ap (λ (n : ℕ). judged inner once t n at (stand o from e)) (sym (i .0));
+}
 
 -- a bare value is not judged: its type was
 unjudged : (inner : Inner) (t : ℤ) (own p : ℕ) (s : State) → elementary t ≡ true → judged inner false t own p s ≡ inner t own p s
@@ -58,11 +50,36 @@ unjudged inner t own p s e = rw (carried (kindOf t .carried) (ltZ (negsuc 30) t)
     carried true b e = refl
     carried false b e = e
 
-pub head-bare : {o : List ℕ} {w : Stand} {at : ℕ} {z : ℤ} → w ≡ Bare z → mag z < 2 ^ 31 → at ≤ length o → HeadAt o w at (Typing at (toZ w32 (ofZ w32 z)) false)
+bare-headed : {o : List ℕ} {at from own : ℕ} {s t : ℤ} → at ≤ length o → BareIs t at (Standing from own s) → elementary t ≡ true → Headed o (bare t) at from own s false
 unfolding each _>>=_ here stand
-head-bare {o} {w} {at} {z} e g h = rw (held {w = w32} {z = z} (record { sfits = g })) record { is = λ f s. by f (subst (λ (v : Stand). Means v f) e (s .means)); past = h }
+bare-headed {o} {at} {from} {own} {s} {t} h i k = rw (i .0, i .1, i .2) record {
+  further = omega arith;
+  within = h;
+  later = inr k;
+  judges = λ inner e. sym (unjudged inner t 0 at (stand o at e) k);
+}
+
+pub headed : {o : List ℕ} {w : Form} {at from own : ℕ} {t : ℤ} → at ≤ length o → TypedAt o w at (Standing from own t) → (f : Forms) → Stands w f → Headed o f at from own t (onceOf w)
+headed {o} {w} {at} {from} {own} {t} h typed f s = by w f (s .means) (typed .is)
   where
-    by : (f : Form) → Means (Bare z) f → HeadIs o f at (Typing at z false)
-    by (whole b) m = absurd m
-    by (bare t) m = let k : elementary z ≡ true = ap elementary (m .0) ∙ m .1 in
-        subst (λ (t : ℤ). HeadIs o (bare t) at (Typing at z false)) (m .0) (0, omega arith, h, inr k, λ inner x. sym (unjudged inner z 0 at (stand o at x) k))
+    by : (w : Form) (f : Forms) → Means w f → TypedIs o w at (Standing from own t) → Headed o f at from own t (onceOf w)
+    by Whole (whole once) m i = rw m (whole-headed false i)
+    by Named (whole once) m i = rw m (whole-headed true i)
+    by (Bare a) (whole once) m i = absurd m
+    by Whole (bare u) m i = absurd m
+    by Named (bare u) m i = absurd m
+    by (Bare a) (bare u) m i = rw (← m .0) (bare-headed h i (ap elementary (m .0) ∙ m .1))
+
+pub odd : {o : List ℕ} {w : Form} {at : ℕ} {r : Refusal} → TypedAt o w at (Untyped r) → (f : Forms) → Stands w f → (inner : Inner) (e : Env) → each inner f (stand o at e) ≡ stop r
+odd {o} {w} {at} {r} typed f s inner e = by w f (s .means) (typed .is)
+  where
+    read : (once : Bool) → IdentifierIs o at (Untyped r) → each inner (whole once) (stand o at e) ≡ stop r
+    read once i = by-identifier once o at inner e ∙ ap (λ (y : Out ℤ). follow y (λ t. judged inner once t 1 at)) (i e)
+
+    by : (w : Form) (f : Forms) → Means w f → TypedIs o w at (Untyped r) → each inner f (stand o at e) ≡ stop r
+    by Whole (whole once) m i = read once i
+    by Named (whole once) m i = read once i
+    by (Bare a) (whole once) m i = absurd m
+    by Whole (bare u) m i = absurd m
+    by Named (bare u) m i = absurd m
+    by (Bare a) (bare u) m i = absurd i

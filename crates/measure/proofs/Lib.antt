@@ -1,6 +1,5 @@
 pub mod Turns
 pub mod Counts
-pub mod Passing
 pub mod Ids
 pub mod Data
 pub mod Plans

@@ -13,13 +13,16 @@ use Rattle.reading.specs.Reading.{Out, refusal, Reader, stand, follow, _>>=_, r
 use Rattle.format.specs.Types.{gives, refers, nothing, one, Kind, container, kindOf}
 use Rattle.format.specs.Values.{whole, counted, may, has, mostIdentities, allow, dataOf}
 use Rattle.decide.specs.declared.Class.the-variants.{Identity, Reference}
+use Rattle.decide.specs.declared.Form.the-variants.{Named}
+use Rattle.decide.specs.declared.Nest.{Nest}
+use Rattle.decide.specs.Forms.{alikeNest}
 use Rattle.decide.specs.declared.Amount.{Amount}
 use Rattle.decide.specs.declared.Amount.the-variants.{Number, NoNumber}
 use Rattle.decide.specs.Elements.{amountOut, pastAmount, AmountAt}
 use Rattle.measure.specs.declared.Plan.the-variants.{Refuse, Single, Inner as Nested}
 use Rattle.measure.specs.Identities.{listed, given, ended, envOf}
 use Rattle.measure.specs.Tally.{single, valueRows, inside}
-use Rattle.measure.specs.Plans.{judged, DataPlan, identityNest}
+use Rattle.measure.specs.Plans.{judged, DataPlan, namedContents}
 use Rattle.measure.proofs.Ids.{listed-length}
 use Rattle.measure.proofs.Data.{identity-rows, reference-rows}
 use Rattle.measure.proofs.Plans.{judged-yes, judged-twice}
@@ -67,15 +70,16 @@ module _ (o l : List ℕ) (at p : ℕ) where
     unfolding _>>=_ require
     identity-full {next} {n} e f g = record { plan = λ t own i lv. by-number t own lv i ∙ rw e (tests lv n next false false f (le-ltb (given l) 64 g)) }
 
-    pub identity-new : {next n : ℕ} → a ≡ Number next n → has n (listed l 0 (given l)) ≡ false → given l < 64 → DataPlan o l Identity once at p (Nested (identityNest n next))
+    pub identity-new : {next n : ℕ} → a ≡ Number next n → has n (listed l 0 (given l)) ≡ false → given l < 64 → {k : Nest} → k ≡ alikeNest Named 1 false → DataPlan o l Identity once at p (Nested (namedContents k n next))
     unfolding _>>=_ require
-    identity-new {next} {n} e f g = let q = subst (pastAmount o at) e (h .past) in record {
+    identity-new {next} {n} e f g z = let q = subst (pastAmount o at) e (h .past) in rw z record {
       plan = λ t own i. record {
         form-is = whole true;
         other-is = whole true;
         form-stands = record { means = refl };
         other-stands = record { means = refl };
         one-form = tt;
+        few = omega arith;
         further = omega (arith, q .0);
         within = q .1;
         room = omega arith;

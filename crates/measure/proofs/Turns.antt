@@ -11,20 +11,8 @@ use Rattle.reading.specs.declared.Refusal.{Refusal}
 use Rattle.reading.specs.Reading.{State, Out, got, stop, refusal, Reader, follow, _>>=_, return, require, either, here}
 use Rattle.integer.specs.Packed.{wide32, integer}
 use Rattle.format.specs.Data.{eqZ}
+use Rattle.decide.specs.Gates.{Gate, halt, ends, go, indexGate}
 use Rattle.format.specs.Values.{Value, Children, empty, childOf, Form, counted, rising, label, Inner, each, turns, pairs, children}
-
--- whether a value follows: a refusal, the end, or a value with its label; and the state there
-pub data Gate : Type 0 where
-  halt : Refusal → Gate
-  ends : State → Gate
-  go : ℕ → State → Gate
-
--- by the index that was read at p
-abbrev pub indexGate : ℕ → ℕ → ℕ → Out ℤ → Gate
-indexGate p top low (stop r) = halt r
-indexGate p top low (got z s) =
-    cond (eqZ z (negsuc 0)) (ends s)
-    (cond (nonNeg z) (cond (leb low (mag z)) (cond (ltb (mag z) top) (go (mag z) s) (halt (refusal 5 p))) (halt (refusal 5 p))) (halt (refusal 5 p)))
 
 -- what a loop does at a gate: a value, and then `again`, the rest of the loop
 abbrev pub onGate : Reader Value → (ℕ → Reader Children) → Gate → Out Children

@@ -25,15 +25,17 @@ use Rattle.scalar.specs.Moments.{partsOf, countOf}
 use Rattle.decide.specs.declared.Class.{Class}
 use Rattle.decide.specs.declared.Class.the-variants.{Parts as Parted}
 use Rattle.decide.specs.Classes.{leastOf, elementary, ClassOf}
-use Rattle.measure.specs.declared.Stand.{Stand}
-use Rattle.measure.specs.declared.Head.{Head}
-use Rattle.measure.specs.declared.Head.the-variants.{Typing, Odd}
+use Rattle.decide.specs.declared.Form.{Form}
+use Rattle.decide.specs.declared.Typed.{Typed}
+use Rattle.decide.specs.declared.Typed.the-variants.{Standing, Untyped}
+use Rattle.decide.specs.Forms.{TypedAt}
 use Rattle.measure.specs.declared.Plan.{Plan}
 use Rattle.measure.specs.declared.Plan.the-variants.{Refuse, Single, Inner as Nested}
 use Rattle.measure.specs.Identities.{envOf}
 use Rattle.measure.specs.Tally.{valueRows}
-use Rattle.measure.specs.Plans.{PlanIs, momentPlan, DataPlan, HeadIs, HeadAt, ValuePlan}
+use Rattle.measure.specs.Plans.{onceOf, PlanIs, momentPlan, DataPlan, ValuePlan}
 use Rattle.measure.proofs.Data.{dated-rows}
+use Rattle.measure.proofs.Heads.{headed, odd}
 use Rattle.measure.proofs.Plans.{judged-silent}
 
 -- ---- dates and times
@@ -71,6 +73,7 @@ plan-as o l a b rows more (Nested n) h e p = record {
   form-stands = p .form-stands;
   other-stands = p .other-stands;
   one-form = p .one-form;
+  few = p .few;
   further = omega (arith, p .further);
   within = p .within;
   room = p .room;
@@ -79,21 +82,21 @@ plan-as o l a b rows more (Nested n) h e p = record {
 
 -- ---- the value
 
-pub value-odd : {o l : List ℕ} {w : Stand} {at : ℕ} {x : Head} {r : Refusal} → HeadAt o w at x → x ≡ Odd r → ValuePlan o l w at (Refuse r)
+pub value-odd : {o l : List ℕ} {w : Form} {at : ℕ} {x : Typed} {r : Refusal} → TypedAt o w at x → x ≡ Untyped r → ValuePlan o l w at (Refuse r)
 unfolding valueRows _>>=_
-value-odd {o} {l} {w} {at} h e = record { plan = λ f s lv. ap (λ (y : Out Value). follow y (λ v. return (suc (count (v .inside))))) (subst (HeadIs o f at) e (h .is f s) (dataOf (suc lv)) (envOf l)) }
+value-odd {o} {l} {w} {at} h e = record { plan = λ f s lv. ap (λ (y : Out Value). follow y (λ v. return (suc (count (v .inside))))) (odd (subst (TypedAt o w at) e h) f s (dataOf (suc lv)) (envOf l)) }
 
 -- an octet at least lies before the end of the data
 starts-before : {at from : ℕ} {t : ℤ} {c : Class} → ClassOf t c → at ≤ from → (at < from) ⊎ (elementary t ≡ true) → at + 1 ≤ from + leastOf c
 starts-before k h (inl p) = omega arith
 starts-before k h (inr e) = omega (arith, k .least (k .sturdy ∙ e))
 
-pub value-typed : {o l : List ℕ} {w : Stand} {at from : ℕ} {z : ℤ} {c : Class} {once : Bool} {x : Head} {r : Plan} → HeadAt o w at x → x ≡ Typing from z once → mag z < 2 ^ 31
-    → ClassOf (toZ w32 (ofZ w32 z)) c → DataPlan o l c once from at r → ValuePlan o l w at r
+pub value-typed : {o l : List ℕ} {w : Form} {at from own : ℕ} {z : ℤ} {c : Class} {once : Bool} {x : Typed} {r : Plan} → at ≤ length o → TypedAt o w at x → x ≡ Standing from own z → mag z < 2 ^ 31
+    → ClassOf (toZ w32 (ofZ w32 z)) c → once ≡ onceOf w → DataPlan o l c once from at r → ValuePlan o l w at r
 unfolding valueRows _>>=_
-value-typed {o} {l} {w} {at} {from} {z} {c} {once} {r} h e g k d = record {
+value-typed {o} {l} {w} {at} {from} {own} {z} {c} {once} {r = r} h typed e g k u d = record {
   plan = λ f s.
-      let q = subst (HeadIs o f at) e (h .is f s) in
+      let q = headed h (subst (TypedAt o w at) e typed) f s in
       let j : ClassOf z c = subst (λ (t : ℤ). ClassOf t c) (held (record { sfits = g })) k in
-      plan-as o l (at + 1) (from + leastOf c) _ _ r (starts-before j (q .1) (q .3)) (λ lv. ap (λ (y : Out Value). follow y (λ v. return (suc (count (v .inside))))) (q .4 (dataOf (suc lv)) (envOf l))) (d .plan z (q .0) (j .is));
+      plan-as o l (at + 1) (from + leastOf c) _ _ r (starts-before j (q .further) (q .later)) (λ lv. ap (λ (y : Out Value). follow y (λ v. return (suc (count (v .inside))))) (q .judges (dataOf (suc lv)) (envOf l))) (subst (λ (b : Bool). DataPlan o l c b from at r) u d .plan z own (j .is));
 }

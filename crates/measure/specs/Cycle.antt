@@ -2,29 +2,29 @@
 use mathlib.Core.Path.{_≡_}
 use mathlib.Core.Bool.{Bool}
 use mathlib.Core.List.{List}
-use Prim.Native.Nat.{ℕ, _+_, _*_, _≤_}
+use Prim.Native.Nat.{ℕ, _+_, _*_, _^_, _<_, _≤_}
 use lib.ListN.{length}
 use lib.IntN.{ℤ}
 use Rattle.reading.specs.declared.Refusal.{Refusal}
 use Rattle.reading.specs.Reading.{Env, State, Out, got, stop, refusal, stand}
-use Rattle.format.specs.Values.{Form, each, dataOf}
+use Rattle.format.specs.Values.{each, dataOf}
+use Rattle.format.specs.Values.{Form as Forms}
 use Rattle.decide.specs.declared.Class.{Class}
 use Rattle.decide.specs.Classes.{Is}
-use Rattle.measure.specs.declared.Stand.{Stand}
-use Rattle.measure.specs.declared.Nest.{Nest}
+use Rattle.decide.specs.declared.Form.{Form}
+use Rattle.measure.specs.declared.Contents.{Contents}
 use Rattle.measure.specs.declared.Step.{Step}
 use Rattle.measure.specs.declared.Step.the-variants.{On, Stop}
 use Rattle.measure.specs.Tally.{plus, valueRows, inside, rest}
-use Rattle.measure.specs.Gates.{OneForm}
 use Rattle.measure.specs.Identities.{given, ended, envOf, nameOf, one, Ids}
-use Rattle.measure.specs.Plans.{Stands, judged}
+use Rattle.measure.specs.Plans.{Stands, OneForm, judged}
 
 -- a type at level 17: how it is refused
 pub record TooDeep (c : Class) (once : Bool) (n : ℕ) : Type 0 where
   pub refuses : (t : ℤ) (own p : ℕ) (s : State) → Is c t → judged (dataOf 0) once t own p s ≡ stop (refusal n p)
 
-pub record DeepAt (o : List ℕ) (w : Stand) (at : ℕ) (r : Refusal) : Type 0 where
-  pub refuses : (f : Form) → Stands w f → (e : Env) → each (dataOf 0) f (stand o at e) ≡ stop r
+pub record DeepAt (o : List ℕ) (w : Form) (at : ℕ) (r : Refusal) : Type 0 where
+  pub refuses : (f : Forms) → Stands w f → (e : Env) → each (dataOf 0) f (stand o at e) ≡ stop r
 
 -- what was counted, where the identities are then e
 abbrev pub stepOut : List ℕ → Env → Step → Out ℕ
@@ -38,33 +38,34 @@ Going o l after at (Stop r) = Unit {0}
 
 -- ---- a value
 
-pub record CanRead (o l : List ℕ) (w : Stand) (at rows : ℕ) : Type 0 where
+pub record CanRead (o l : List ℕ) (w : Form) (at rows : ℕ) : Type 0 where
   pub within : at ≤ length o
   pub few : rows ≤ 11 * at
   pub good : Ids l
   pub short : length o ≤ 65535
-  pub stands : (f : Form) × Stands w f
+  pub stands : (f : Forms) × Stands w f
 
-pub record HasRead (o l : List ℕ) (w : Stand) (at rows depth : ℕ) (r : Step) (after : List ℕ) : Type 0 where
-  pub same : (f : Form) → Stands w f → stepOut o (envOf after) r ≡ plus rows (valueRows (each (dataOf depth) f)) (stand o at (envOf l))
+pub record HasRead (o l : List ℕ) (w : Form) (at rows depth : ℕ) (r : Step) (after : List ℕ) : Type 0 where
+  pub same : (f : Forms) → Stands w f → stepOut o (envOf after) r ≡ plus rows (valueRows (each (dataOf depth) f)) (stand o at (envOf l))
   pub going : Going o l after (at + 1) r
 
 -- ---- the values inside a container
 
-pub record Forms (w v : Stand) (x : Bool) (f g : Form) : Type 0 where
+pub record Standing (w v : Form) (x : Bool) (f g : Forms) : Type 0 where
   pub first : Stands w f
   pub second : Stands v g
   pub alike : OneForm x f g
 
-pub record CanHold (o l : List ℕ) (n : Nest) (before : ℕ) : Type 0 where
+pub record CanHold (o l : List ℕ) (n : Contents) (before : ℕ) : Type 0 where
   pub within : n .from ≤ length o
   pub few : before ≤ 11 * n .from
   pub good : Ids l
   pub room : given l + one (n .named) ≤ 64
   pub short : length o ≤ 65535
-  pub forms : (f : Form) × (g : Form) × Forms (n .form) (n .other) (n .indexed) f g
+  pub small : n .nest .count < 2 ^ 32
+  pub forms : (f : Forms) × (g : Forms) × Standing (n .nest .form) (n .nest .other) (n .nest .indexed) f g
 
-pub record HasHeld (o l : List ℕ) (n : Nest) (before depth : ℕ) (r : Step) (after : List ℕ) : Type 0 where
-  pub same : (f g : Form) → Forms (n .form) (n .other) (n .indexed) f g
-      → stepOut o (envOf after) r ≡ inside (dataOf depth) (nameOf (n .named)) (n .id) (rest (n .indexed) f g (n .count) 0) before (stand o (n .from) (envOf l))
+pub record HasHeld (o l : List ℕ) (n : Contents) (before depth : ℕ) (r : Step) (after : List ℕ) : Type 0 where
+  pub same : (f g : Forms) → Standing (n .nest .form) (n .nest .other) (n .nest .indexed) f g
+      → stepOut o (envOf after) r ≡ inside (dataOf depth) (nameOf (n .named)) (n .id) (rest (n .nest .indexed) (n .nest .paired) f g (n .nest .count) 0) before (stand o (n .from) (envOf l))
   pub going : Going o l after (n .from) r

@@ -1,5 +1,4 @@
 pub mod Tally
-pub mod Gates
 pub mod Identities
 pub mod Plans
 pub mod Cycle

@@ -1,10 +1,11 @@
 -- Reading values and counting their rows, without building them.
 use mathlib.Core.Bool.{Bool, true, false}
-use Prim.Native.Nat.{ℕ, suc, _+_}
+use Prim.Native.Nat.{ℕ, suc, _+_, _-_}
 use Rattle.reading.specs.Reading.{Reader, _>>=_, _>>_, return, names, rename}
 use Rattle.format.specs.Types.{Names}
 use Rattle.format.specs.Values.{Value, Form, Rule, counted, rising, Inner, begun, leave, each, children}
 use Rattle.format.specs.Rows.{count}
+use Rattle.decide.specs.Forms.{turn}
 
 -- n more than a reading counts
 unfoldable pub plus : ℕ → Reader ℕ → Reader ℕ
@@ -35,10 +36,10 @@ inside inner y n r rows = do
   leave y n
   return k
 
--- what a container still expects, as the loop over it keeps it
-abbrev pub rest : Bool → Form → Form → ℕ → ℕ → Rule
-rest true f g left low = rising f left low
-rest false f g left low = counted false f g left 0
+-- what a container of `count` values still expects from position `low` on, or with indexes (x) below `count` from `low` on
+abbrev pub rest : Bool → Bool → Form → Form → ℕ → ℕ → Rule
+rest true paired f g count low = rising f count low
+rest false paired f g count low = counted paired (turn f g low) (turn g f low) (count - low) low
 
 -- a value, read after `rows` were counted, and then what is still expected
 unfoldable pub onward : Inner → Form → Rule → ℕ → Reader ℕ

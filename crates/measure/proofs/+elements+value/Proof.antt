@@ -1,10 +1,8 @@
-use mathlib.Core.Path.{sym}
-use Rattle.measure.proofs.Cycle.{parts-fit}
-use mathlib.Core.Path.{refl, _∙_}
-use Rattle.measure.proofs.Cycle.{turning-first, turning-can-read, turning-again, turning-less, held-halted, held-ended, held-stopped, can-end, value-deep, value-refused, value-single, value-nested, value-can-hold, rises, sinks, some-level, rows-fit}
+use borrow.Author.Needs.{needs}
+
+use mathlib.Core.Path.{refl, sym, _∙_}
 use Prim.Native.Nat.{_+_, _-_, _*_}
-use lib.ListN.{length}
-use Rattle.measure.proofs.Cycle.{Turning}
+use Rattle.measure.proofs.Cycle.{Turning, turning-first, turning-can-read, turning-again, turning-less, low-fits, held-halted, held-ended, held-stopped, can-end, value-deep, value-refused, value-single, value-nested, value-can-hold, rises, sinks, some-level, rows-fit, parts-fit}
 use Prim.Native.Nat.{ℕ, _<_}
 use borrow.Fn.Kinds.{In}
 use borrow.Fn.PlainCycle.{Measures, is, falls, and}
@@ -14,8 +12,10 @@ use Rattle.measure.proofs.+elements+value.Lts-elements as elements-lts
 use Rattle.measure.proofs.value.Reads as value
 use Rattle.measure.proofs.value.Kinds as value-kinds
 use Rattle.measure.proofs.+elements+value.Lts-value as value-lts
+use Rattle.decide.proofs.low_after.Reads as low-after-reads
+use Rattle.decide.proofs.next_at.Reads as next-at-reads
+use Rattle.decide.proofs.turn_of.Reads as turn-of-reads
 use Rattle.measure.proofs.end_id.Reads as end-id-reads
-use Rattle.measure.proofs.gate_at.Reads as gate-at-reads
 use Rattle.measure.proofs.open_id.Reads as open-id-reads
 use Rattle.measure.proofs.plan_at.Reads as plan-at-reads
 use Rattle.measure.proofs.too_deep.Reads as too-deep-reads
@@ -42,156 +42,164 @@ abbrev value-below : ℕ → In 2 value-kinds.ps
 value-below t = and 2 value-kinds.ps (falls 2 value-kinds.ps _<_ μ-value t) value.Pre
 
 abbrev elements-claims : ℕ → elements-lts.Claims
-elements-claims t = (open-id-reads.Asked, open-id-reads.Learnt, gate-at-reads.Asked, gate-at-reads.Learnt, end-id-reads.Asked, end-id-reads.Learnt, value-below t, value.Post)
+elements-claims t = (open-id-reads.Asked, open-id-reads.Learnt, next-at-reads.Asked, next-at-reads.Learnt, end-id-reads.Asked, end-id-reads.Learnt, turn-of-reads.Asked, turn-of-reads.Learnt, value-below t, value.Post, low-after-reads.Asked, low-after-reads.Learnt)
 
 abbrev value-claims : ℕ → value-lts.Claims
 value-claims t = (too-deep-reads.Asked, too-deep-reads.Learnt, plan-at-reads.Asked, plan-at-reads.Learnt, elements-below t, elements.Post)
 
 abbrev elements-Inv-loop : elements-lts.InvT-loop
-elements-Inv-loop src ids₀ before depth indexed named id at₀ left₀ form₀ other₀ low₀ rows₀ ids at left form other low rows = Turning src ids₀ depth indexed at₀ left₀ form₀ other₀ rows₀ ids at left form other low rows
+elements-Inv-loop src ids₀ before depth named id indexed paired count form other at₀ low₀ rows₀ ids at low rows = Turning src ids₀ depth indexed paired count form other at₀ rows₀ ids at low rows
 
 abbrev elements-μ-loop : elements-lts.MeasureT-loop
-elements-μ-loop src ids₀ before depth indexed named id at₀ left₀ form₀ other₀ low₀ rows₀ ids at left form other low rows = length src - at
+elements-μ-loop src ids₀ before depth named id indexed paired count form other at₀ low₀ rows₀ ids at low rows = count - low
 
--- src/lib.rt:463:5
+-- src/lib.rt:317:5
 elements-open-id-requires : (t : ℕ) → elements-lts.Need-open-id-requires (elements-claims t) (elements-at t) elements.Post elements-Inv-loop elements-μ-loop
-elements-open-id-requires t c κs = (c .before .before .before .pre .1 .good, c .before .before .before .pre .1 .room)
+elements-open-id-requires t c κs = (c .before .before .before .before .pre .1 .good, c .before .before .before .before .pre .1 .room)
 
--- src/lib.rt:464:5
+-- src/lib.rt:318:5
 elements-loop-holds : (t : ℕ) → elements-lts.Need-loop-holds (elements-claims t) (elements-at t) elements.Post elements-Inv-loop elements-μ-loop
-elements-loop-holds t c = turning-first (c .before .before .before .before .before .before .pre .1) (c .before .before .open-id .ensures)
+elements-loop-holds t c = turning-first (c .before .before .before .before .before .before .before .pre .1) (c .before .before .open-id .ensures)
 
--- src/lib.rt:465:15
-elements-gate-at-requires : (t : ℕ) → elements-lts.Need-gate-at-requires (elements-claims t) (elements-at t) elements.Post elements-Inv-loop elements-μ-loop
-elements-gate-at-requires t c κs = (c .loop .inv .within, c .loop .inv .apt)
+-- src/lib.rt:319:15
+elements-next-at-requires : (t : ℕ) → elements-lts.Need-next-at-requires (elements-claims t) (elements-at t) elements.Post elements-Inv-loop elements-μ-loop
+elements-next-at-requires t c κs = c .loop .inv .within
 
--- src/lib.rt:466:24
+-- src/lib.rt:320:24
 elements-enum-known-r : (t : ℕ) → elements-lts.Need-enum-known-r (elements-claims t) (elements-at t) elements.Post elements-Inv-loop elements-μ-loop
 elements-enum-known-r t c = c .match .keys1
 
--- src/lib.rt:466:30
+-- src/lib.rt:320:30
 elements-same-length : (t : ℕ) → elements-lts.Need-same-length (elements-claims t) (elements-at t) elements.Post elements-Inv-loop elements-μ-loop
-elements-same-length t c = c .before .before .before .before .loop .inv .good .long ∙ sym (c .before .before .before .before .before .before .before .before .before .before .before .pre .1 .good .long)
+elements-same-length t c = c .before .before .before .before .loop .inv .good .long ∙ sym (c .before .before .before .before .before .before .before .before .before .before .before .before .pre .1 .good .long)
 
--- src/lib.rt:466:30
+-- src/lib.rt:320:30
 elements-returns : (t : ℕ) → elements-lts.Need-returns (elements-claims t) (elements-at t) elements.Post elements-Inv-loop elements-μ-loop
-elements-returns t c = held-halted _ (c .before .before .before .before .before .before .before .before .before .before .before .pre .1) (c .before .before .before .before .before .before .before .open-id .ensures) (c .before .before .before .before .loop .inv) (c .before .before .before .gate-at .ensures) (c .before .r .given .1)
+elements-returns t c = held-halted _ (c .before .before .before .before .before .before .before .before .before .before .before .before .pre .1) (c .before .before .before .before .before .before .before .open-id .ensures) (c .before .before .before .before .loop .inv) (c .before .before .before .next-at .ensures) (c .before .r .given .1)
 
--- src/lib.rt:467:23
+-- src/lib.rt:321:23
 elements-enum-known-next : (t : ℕ) → elements-lts.Need-enum-known-next (elements-claims t) (elements-at t) elements.Post elements-Inv-loop elements-μ-loop
 elements-enum-known-next t c = c .match .keys2
 
--- src/lib.rt:468:17
+-- src/lib.rt:322:17
 elements-end-id-requires : (t : ℕ) → elements-lts.Need-end-id-requires (elements-claims t) (elements-at t) elements.Post elements-Inv-loop elements-μ-loop
-elements-end-id-requires t c κs = can-end _ (c .before .before .before .before .before .before .before .before .before .before .before .before .pre .1) (c .before .before .before .before .before .before .before .before .open-id .ensures) (c .before .before .before .before .before .loop .inv) (c .before .before .before .before .gate-at .ensures)
+elements-end-id-requires t c κs = can-end _ (c .before .before .before .before .before .before .before .before .before .before .before .before .before .pre .1) (c .before .before .before .before .before .before .before .before .open-id .ensures) (c .before .before .before .before .before .loop .inv) (c .before .before .before .before .next-at .ensures)
 
--- src/lib.rt:469:17
+-- src/lib.rt:323:17
 elements-same-length-2 : (t : ℕ) → elements-lts.Need-same-length-2 (elements-claims t) (elements-at t) elements.Post elements-Inv-loop elements-μ-loop
-elements-same-length-2 t c = c .before .before .end-id .kept .0 ∙ c .before .before .before .before .before .before .before .before .loop .inv .good .long ∙ sym (c .before .before .before .before .before .before .before .before .before .before .before .before .before .before .before .pre .1 .good .long)
+elements-same-length-2 t c = c .before .before .end-id .kept .0 ∙ c .before .before .before .before .before .before .before .before .loop .inv .good .long ∙ sym (c .before .before .before .before .before .before .before .before .before .before .before .before .before .before .before .before .pre .1 .good .long)
 
--- src/lib.rt:469:17
+-- src/lib.rt:323:17
 elements-returns-2 : (t : ℕ) → elements-lts.Need-returns-2 (elements-claims t) (elements-at t) elements.Post elements-Inv-loop elements-μ-loop
-elements-returns-2 t c = held-ended _ (c .before .before .before .before .before .before .before .before .before .before .before .before .before .before .before .pre .1) (c .before .before .before .before .before .before .before .before .before .before .before .open-id .ensures) (c .before .before .before .before .before .before .before .before .loop .inv) (c .before .before .before .before .before .before .before .gate-at .ensures) (c .before .before .before .before .before .next .given .1) (c .before .before .end-id .ensures)
+elements-returns-2 t c = held-ended _ (c .before .before .before .before .before .before .before .before .before .before .before .before .before .before .before .before .pre .1) (c .before .before .before .before .before .before .before .before .before .before .before .open-id .ensures) (c .before .before .before .before .before .before .before .before .loop .inv) (c .before .before .before .before .before .before .before .next-at .ensures) (c .before .before .before .before .before .next .given .1) (c .before .before .end-id .ensures)
 
--- src/lib.rt:471:22
+-- src/lib.rt:325:25
 elements-enum-known-next-2 : (t : ℕ) → elements-lts.Need-enum-known-next-2 (elements-claims t) (elements-at t) elements.Post elements-Inv-loop elements-μ-loop
 elements-enum-known-next-2 t c = c .match .keys3
 
--- src/lib.rt:471:50
-elements-value-requires : (t : ℕ) → elements-lts.Need-value-requires (elements-claims t) (elements-at t) elements.Post elements-Inv-loop elements-μ-loop
-elements-value-requires t c κs = (rises _ (c .before .before .before .before .before .before .before .before .before .before .before .before .pre .0), turning-can-read (c .before .before .before .before .before .loop .inv) (c .before .before .before .before .gate-at .ensures) (c .before .before .next2 .given .1))
+-- src/lib.rt:326:21
+elements-turn-of-requires : (t : ℕ) → elements-lts.Need-turn-of-requires (elements-claims t) (elements-at t) elements.Post elements-Inv-loop elements-μ-loop
+elements-turn-of-requires t c κs = search needs
 
--- src/lib.rt:472:28
+-- src/lib.rt:327:23
+elements-value-requires : (t : ℕ) → elements-lts.Need-value-requires (elements-claims t) (elements-at t) elements.Post elements-Inv-loop elements-μ-loop
+elements-value-requires t c κs = (rises _ (c .before .before .before .before .before .before .before .before .before .before .before .before .before .before .pre .0), turning-can-read (c .before .before .before .before .before .before .loop .inv) (c .before .before .before .before .before .next-at .ensures) (c .before .before .before .next2 .given .1) (c .before .turn-of .ensures))
+
+-- src/lib.rt:328:32
 elements-enum-known-r-2 : (t : ℕ) → elements-lts.Need-enum-known-r-2 (elements-claims t) (elements-at t) elements.Post elements-Inv-loop elements-μ-loop
 elements-enum-known-r-2 t c = c .match2 .keys1
 
--- src/lib.rt:472:34
+-- src/lib.rt:328:38
 elements-same-length-3 : (t : ℕ) → elements-lts.Need-same-length-3 (elements-claims t) (elements-at t) elements.Post elements-Inv-loop elements-μ-loop
-elements-same-length-3 t c = c .before .before .before .before .before .value .kept .1 .0 ∙ c .before .before .before .before .before .before .before .before .before .before .before .loop .inv .good .long ∙ sym (c .before .before .before .before .before .before .before .before .before .before .before .before .before .before .before .before .before .before .pre .1 .good .long)
+elements-same-length-3 t c = c .before .before .before .before .before .value .kept .1 .0 ∙ c .before .before .before .before .before .before .before .before .before .before .before .before .loop .inv .good .long ∙ sym (c .before .before .before .before .before .before .before .before .before .before .before .before .before .before .before .before .before .before .before .before .pre .1 .good .long)
 
--- src/lib.rt:472:34
+-- src/lib.rt:328:38
 elements-returns-3 : (t : ℕ) → elements-lts.Need-returns-3 (elements-claims t) (elements-at t) elements.Post elements-Inv-loop elements-μ-loop
-elements-returns-3 t c = held-stopped _ (c .before .before .before .before .before .before .before .before .before .before .before .before .before .before .before .before .before .before .pre .1) (c .before .before .before .before .before .before .before .before .before .before .before .before .before .before .open-id .ensures) (c .before .before .before .before .before .before .before .before .before .before .before .loop .inv) (c .before .before .before .before .before .before .before .before .before .before .gate-at .ensures) (c .before .before .before .before .before .before .before .before .next2 .given .1) (c .before .before .before .before .before .value .ensures) (c .before .r2 .given .1)
+elements-returns-3 t c = held-stopped _ (c .before .before .before .before .before .before .before .before .before .before .before .before .before .before .before .before .before .before .before .before .pre .1) (c .before .before .before .before .before .before .before .before .before .before .before .before .before .before .before .open-id .ensures) (c .before .before .before .before .before .before .before .before .before .before .before .before .loop .inv) (c .before .before .before .before .before .before .before .before .before .before .before .next-at .ensures) (c .before .before .before .before .before .before .before .before .before .next2 .given .1) (c .before .before .before .before .before .before .before .turn-of .ensures) (c .before .before .before .before .before .value .ensures) (c .before .r2 .given .1)
 
--- src/lib.rt:473:26
+-- src/lib.rt:329:30
 elements-enum-known-there : (t : ℕ) → elements-lts.Need-enum-known-there (elements-claims t) (elements-at t) elements.Post elements-Inv-loop elements-μ-loop
 elements-enum-known-there t c = c .match2 .keys2
 
--- src/lib.rt:464:5
+-- src/lib.rt:332:25
+elements-low-after-requires : (t : ℕ) → elements-lts.Need-low-after-requires (elements-claims t) (elements-at t) elements.Post elements-Inv-loop elements-μ-loop
+elements-low-after-requires t c κs = low-fits (c .before .before .before .before .before .before .before .before .before .before .before .before .loop .inv) (c .before .before .before .before .before .before .before .before .before .before .before .next-at .ensures) (c .before .before .before .before .before .before .before .before .before .next2 .given .1)
+
+-- src/lib.rt:318:5
 elements-loop-less : (t : ℕ) → elements-lts.Need-loop-less (elements-claims t) (elements-at t) elements.Post elements-Inv-loop elements-μ-loop
-elements-loop-less t c = turning-less (c .before .before .before .before .before .before .before .before .before .before .before .loop .inv) (c .before .before .before .before .before .before .before .before .before .before .gate-at .ensures) (c .before .before .before .before .before .before .before .before .next2 .given .1) (c .before .before .before .before .before .value .ensures) (c .before .there .given .1)
+elements-loop-less t c = turning-less (c .before .before .before .before .before .before .before .before .before .before .before .before .before .loop .inv) (c .before .before .before .before .before .before .before .before .before .before .before .before .next-at .ensures) (c .before .before .before .before .before .before .before .before .before .before .next2 .given .1) (c .low-after .ensures)
 
--- src/lib.rt:464:5
+-- src/lib.rt:318:5
 elements-loop-again : (t : ℕ) → elements-lts.Need-loop-again (elements-claims t) (elements-at t) elements.Post elements-Inv-loop elements-μ-loop
-elements-loop-again t c = turning-again (c .before .before .before .before .before .before .before .before .before .before .before .loop .inv) (c .before .before .before .before .before .before .before .before .before .before .gate-at .ensures) (c .before .before .before .before .before .before .before .before .next2 .given .1) (c .before .before .before .before .before .value .ensures) (c .before .there .given .1)
+elements-loop-again t c = turning-again (c .before .before .before .before .before .before .before .before .before .before .before .before .before .loop .inv) (c .before .before .before .before .before .before .before .before .before .before .before .before .next-at .ensures) (c .before .before .before .before .before .before .before .before .before .before .next2 .given .1) (c .before .before .before .before .before .before .before .before .turn-of .ensures) (c .before .before .before .before .before .before .value .ensures) (c .before .before .there .given .1) (c .low-after .ensures)
 
--- src/lib.rt:440:27
+-- src/lib.rt:292:27
 value-too-deep-requires : (t : ℕ) → value-lts.Need-too-deep-requires (value-claims t) (value-at t) value.Post
 value-too-deep-requires t c κs = c .before .before .before .pre .1 .within
 
--- src/lib.rt:440:9
+-- src/lib.rt:292:9
 value-returns : (t : ℕ) → value-lts.Need-returns (value-claims t) (value-at t) value.Post
 value-returns t c = value-deep _ _ _ _ _ _ (c .before .if1 .taken) (c .too-deep .ensures)
 
--- src/lib.rt:442:11
+-- src/lib.rt:294:11
 value-plan-at-requires : (t : ℕ) → value-lts.Need-plan-at-requires (value-claims t) (value-at t) value.Post
 value-plan-at-requires t c κs = (c .before .before .before .before .pre .1 .within, c .before .before .before .before .pre .1 .good)
 
--- src/lib.rt:443:22
+-- src/lib.rt:295:22
 value-enum-known-r : (t : ℕ) → value-lts.Need-enum-known-r (value-claims t) (value-at t) value.Post
 value-enum-known-r t c = c .match .keys1
 
--- src/lib.rt:444:22
+-- src/lib.rt:296:22
 value-enum-known-next : (t : ℕ) → value-lts.Need-enum-known-next (value-claims t) (value-at t) value.Post
 value-enum-known-next t c = c .match .keys2
 
--- src/lib.rt:444:53
+-- src/lib.rt:296:53
 value-add-t17 : (t : ℕ) → value-lts.Need-add-t17 (value-claims t) (value-at t) value.Post
 value-add-t17 t c = record { fits = rows-fit (c .before .before .before .before .before .before .before .before .pre .1) }
 
--- src/lib.rt:444:53
+-- src/lib.rt:296:53
 value-add-t18 : (t : ℕ) → value-lts.Need-add-t18 (value-claims t) (value-at t) value.Post
 value-add-t18 t c = record { fits = parts-fit (c .before .before .before .before .before .before .before .before .pre .1) (c .before .before .before .plan-at .ensures) (c .before .next .given .1) }
 
--- src/lib.rt:445:21
-value-enum-known-nest : (t : ℕ) → value-lts.Need-enum-known-nest (value-claims t) (value-at t) value.Post
-value-enum-known-nest t c = c .match .keys3
+-- src/lib.rt:297:21
+value-enum-known-contents : (t : ℕ) → value-lts.Need-enum-known-contents (value-claims t) (value-at t) value.Post
+value-enum-known-contents t c = c .match .keys3
 
--- src/lib.rt:445:55
+-- src/lib.rt:297:63
 value-add-elements : (t : ℕ) → value-lts.Need-add-elements (value-claims t) (value-at t) value.Post
 value-add-elements t c = record { fits = rows-fit (c .before .before .before .before .before .before .before .before .before .pre .1) }
 
--- src/lib.rt:445:65
+-- src/lib.rt:297:73
 value-sub-elements : (t : ℕ) → value-lts.Need-sub-elements (value-claims t) (value-at t) value.Post
 value-sub-elements t c = some-level (c .before .before .before .before .before .before .if1 .left)
 
--- src/lib.rt:445:30
+-- src/lib.rt:297:34
 value-elements-requires : (t : ℕ) → value-lts.Need-elements-requires (value-claims t) (value-at t) value.Post
-value-elements-requires t c κs = (sinks _ (c .before .before .before .before .before .before .before .before .before .pre .0) (c .before .before .before .before .before .before .if1 .left), value-can-hold _ _ _ _ _ _ (c .before .before .before .before .plan-at .ensures) (some-level (c .before .before .before .before .before .before .if1 .left)) (c .before .before .nest .given .1) (c .before .before .before .before .before .before .before .before .before .pre .1))
+value-elements-requires t c κs = (sinks _ (c .before .before .before .before .before .before .before .before .before .pre .0) (c .before .before .before .before .before .before .if1 .left), value-can-hold _ _ _ _ _ _ (c .before .before .before .before .plan-at .ensures) (some-level (c .before .before .before .before .before .before .if1 .left)) (c .before .before .contents .given .1) (c .before .before .before .before .before .before .before .before .before .pre .1))
 
--- src/lib.rt:428:1
+-- src/lib.rt:287:1
 value-same-length : (t : ℕ) → value-lts.Need-same-length (value-claims t) (value-at t) value.Post
 value-same-length t c = refl
 
--- src/lib.rt:428:1
+-- src/lib.rt:287:1
 value-returns-2 : (t : ℕ) → value-lts.Need-returns-2 (value-claims t) (value-at t) value.Post
 value-returns-2 t c = value-refused _ _ _ _ _ _ (c .before .before .before .plan-at .ensures) (some-level (c .before .before .before .before .before .if1 .left)) (c .before .r .given .1)
 
--- src/lib.rt:428:1
+-- src/lib.rt:287:1
 value-same-length-2 : (t : ℕ) → value-lts.Need-same-length-2 (value-claims t) (value-at t) value.Post
 value-same-length-2 t c = refl
 
--- src/lib.rt:428:1
+-- src/lib.rt:287:1
 value-returns-3 : (t : ℕ) → value-lts.Need-returns-3 (value-claims t) (value-at t) value.Post
 value-returns-3 t c = value-single _ _ _ _ _ _ (c .before .before .before .plan-at .ensures) (some-level (c .before .before .before .before .before .if1 .left)) (c .before .next .given .1) (c .before .before .before .before .before .before .before .before .pre .1)
 
--- src/lib.rt:428:1
+-- src/lib.rt:287:1
 value-same-length-3 : (t : ℕ) → value-lts.Need-same-length-3 (value-claims t) (value-at t) value.Post
 value-same-length-3 t c = c .before .before .elements .kept .1 .0
 
--- src/lib.rt:428:1
+-- src/lib.rt:287:1
 value-returns-4 : (t : ℕ) → value-lts.Need-returns-4 (value-claims t) (value-at t) value.Post
-value-returns-4 t c = value-nested _ _ _ _ _ _ (c .before .before .before .before .before .before .before .plan-at .ensures) (some-level (c .before .before .before .before .before .before .before .before .before .if1 .left)) (c .before .before .before .before .before .nest .given .1) (c .before .before .before .before .before .before .before .before .before .before .before .before .pre .1) (c .before .before .elements .ensures)
+value-returns-4 t c = value-nested _ _ _ _ _ _ (c .before .before .before .before .before .before .before .plan-at .ensures) (some-level (c .before .before .before .before .before .before .before .before .before .if1 .left)) (c .before .before .before .before .before .contents .given .1) (c .before .before .before .before .before .before .before .before .before .before .before .before .pre .1) (c .before .before .elements .ensures)
 
 pub +elements+value-spec : {M : Type 1} → statement M
 +elements+value-spec = close μ-elements μ-value (λ t. elements-lts.spec (elements-claims t) (elements-at t)
@@ -200,7 +208,7 @@ pub +elements+value-spec : {M : Type 1} → statement M
     elements-μ-loop
     (elements-open-id-requires t)
     (elements-loop-holds t)
-    (elements-gate-at-requires t)
+    (elements-next-at-requires t)
     (elements-enum-known-r t)
     (elements-same-length t)
     (elements-returns t)
@@ -209,11 +217,13 @@ pub +elements+value-spec : {M : Type 1} → statement M
     (elements-same-length-2 t)
     (elements-returns-2 t)
     (elements-enum-known-next-2 t)
+    (elements-turn-of-requires t)
     (elements-value-requires t)
     (elements-enum-known-r-2 t)
     (elements-same-length-3 t)
     (elements-returns-3 t)
     (elements-enum-known-there t)
+    (elements-low-after-requires t)
     (elements-loop-less t)
     (elements-loop-again t))
     λ t. value-lts.spec (value-claims t) (value-at t)
@@ -225,7 +235,7 @@ pub +elements+value-spec : {M : Type 1} → statement M
     (value-enum-known-next t)
     (value-add-t17 t)
     (value-add-t18 t)
-    (value-enum-known-nest t)
+    (value-enum-known-contents t)
     (value-add-elements t)
     (value-sub-elements t)
     (value-elements-requires t)

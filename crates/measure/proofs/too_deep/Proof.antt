@@ -1,60 +1,55 @@
-use Rattle.measure.proofs.Heads.{identifier-typed, identifier-odd, head-whole}
-use Rattle.measure.proofs.Cycle.{deep-odd, deep-typed, deep-bare}
+use Rattle.measure.proofs.Cycle.{deep-untyped, deep-typed}
 use borrow.Author.Needs.{needs}
 use Rattle.measure.proofs.too_deep.Statement.{statement}
 use Rattle.measure.proofs.too_deep.Tie as tie
+use Rattle.measure.proofs.too_deep.Reads as reads
+use Rattle.measure.proofs.too_deep.Lts as lts
+use Rattle.decide.proofs.class_of.Reads as class-of-reads
+use Rattle.decide.proofs.typed_at.Reads as typed-at-reads
+use Rattle.measure.proofs.deep_number.Reads as deep-number-reads
+use Rattle.measure.proofs.once_of.Reads as once-of-reads
 
--- src/lib.rt:416:27
-enum-told : tie.Need-enum-told
-enum-told c = search needs
+-- src/lib.rt:277:11
+typed-at-requires : tie.Need-typed-at-requires
+typed-at-requires c κs = search needs
 
--- src/lib.rt:420:22
-enum-known-form : tie.Need-enum-known-form
-enum-known-form c = search needs
-
--- src/lib.rt:420:37
-int32-at-requires : tie.Need-int32-at-requires
-int32-at-requires c κs = search needs
-
--- src/lib.rt:421:30
-enum-known-t : tie.Need-enum-known-t
-enum-known-t c = search needs
-
--- src/lib.rt:423:37
-class-of-requires : tie.Need-class-of-requires
-class-of-requires c κs = search needs
-
--- src/lib.rt:423:25
-deep-number-requires : tie.Need-deep-number-requires
-deep-number-requires c κs = search needs
-
--- src/lib.rt:425:31
+-- src/lib.rt:278:24
 enum-known-r : tie.Need-enum-known-r
 enum-known-r c = search needs
 
--- src/lib.rt:411:1
+-- src/lib.rt:279:31
+enum-known-t : tie.Need-enum-known-t
+enum-known-t c = search needs
+
+-- src/lib.rt:281:33
+class-of-requires : tie.Need-class-of-requires
+class-of-requires c κs = search needs
+
+-- src/lib.rt:281:54
+once-of-requires : tie.Need-once-of-requires
+once-of-requires c κs = search needs
+
+-- src/lib.rt:281:21
+deep-number-requires : tie.Need-deep-number-requires
+deep-number-requires c κs = search needs
+
+-- src/lib.rt:273:1
 returns : tie.Need-returns
-returns c = deep-bare (c .enum-told .given .1)
+returns c = deep-untyped (c .before .before .before .typed-at .ensures) (c .before .r .given .1)
 
--- src/lib.rt:411:1
+-- src/lib.rt:273:1
 returns-2 : tie.Need-returns-2
-returns-2 c = deep-typed (head-whole (c .before .before .before .before .before .before .before .form .given .1) (identifier-typed _ (c .before .before .before .before .before .int32-at .ensures) (c .before .before .before .t .given .1) (c .before .before .known-told2 .given .1 .0 .1))) (c .before .class-of .ensures) (c .deep-number .ensures)
-
--- src/lib.rt:411:1
-returns-3 : tie.Need-returns-3
-returns-3 c = deep-odd (head-whole (c .before .before .before .before .before .form .given .1) (identifier-odd _ (c .before .before .before .int32-at .ensures) (c .before .r .given .1)))
+returns-2 c = deep-typed (c .before .before .before .before .before .before .typed-at .ensures) (c .before .before .before .before .before .before .before .before .pre) (c .before .before .before .before .t .given .1) (c .before .before .before .known-told2 .given .1 .1 .0 .1) (c .before .before .class-of .ensures) (c .before .once-of .ensures) (c .deep-number .ensures)
 
 pub too-deep-spec : {M : Type 1} → statement M
 too-deep-spec =
     tie.close
     (tie.spec
-    enum-told
-    enum-known-form
-    int32-at-requires
+    typed-at-requires
+    enum-known-r
     enum-known-t
     class-of-requires
+    once-of-requires
     deep-number-requires
-    enum-known-r
     returns
-    returns-2
-    returns-3)
+    returns-2)
