@@ -1,12 +1,14 @@
 -- How values stand, as the code decides it.
 use mathlib.Core.Path.{_≡_, refl, sym, ap, subst, _∙_}
 use mathlib.Core.Bool.{Bool, true, false}
-use mathlib.Core.List.{List}
+use mathlib.Core.List.{List, [], _∷_}
 use Prim.Native.Nat.{ℕ, _^_, _<_, _≤_}
 use native.Mathlib.Omega.{arith}
 use lib.ListN.{length}
 use lib.IntN.{ℤ, pos}
 use lib.Signed.{mag}
+use types.Run.{OneOf, miss}
+use denote.Enum.Declared.{tagOf}
 use mir.Syntax.{w32}
 use mir.Val.{toZ, ofZ}
 use Rattle.reading.specs.declared.Refusal.{Refusal}
@@ -20,6 +22,7 @@ use Rattle.decide.specs.declared.Element.{Element}
 use Rattle.decide.specs.declared.Element.the-variants.{Of, NoType}
 use Rattle.decide.specs.declared.Form.{Form}
 use Rattle.decide.specs.declared.Form.the-variants.{Whole, Named, Bare}
+use Rattle.decide.proofs.Form as F
 use Rattle.decide.specs.declared.Typed.{Typed}
 use Rattle.decide.specs.declared.Typed.the-variants.{Standing, Untyped}
 use Rattle.decide.specs.Elements.{ElementIs, ElementAt, TypeIs, TypeAt}
@@ -52,12 +55,14 @@ past-identifier : (o : List ℕ) (at : ℕ) (x : Typed) → IdentifierIs o at x 
 past-identifier o at (Standing from own t) p = (omega arith, p .2)
 past-identifier o at (Untyped r) p = tt
 
-module _ {o : List ℕ} {form : Form} {at : ℕ} {x : Typed} where
-  pub typed-whole : form ≡ Whole → IdentifierAt o at x → TypedAt o form at x
-  typed-whole e h = rw e record { is = h .is; past = past-identifier o at x (h .is) }
+-- a form that isn't bare, by the positions in `Form`
+abbrev not-bare : List ℕ
+not-bare = 0 ∷ 1 ∷ []
 
-  pub typed-named : form ≡ Named → IdentifierAt o at x → TypedAt o form at x
-  typed-named e h = rw e record { is = h .is; past = past-identifier o at x (h .is) }
+pub typed-else : {o : List ℕ} {at : ℕ} {x : Typed} (form : Form) → OneOf not-bare (tagOf F.the-type form) → IdentifierAt o at x → TypedAt o form at x
+typed-else {o} {at} {x} Whole h i = record { is = i .is; past = past-identifier o at x (i .is) }
+typed-else {o} {at} {x} Named h i = record { is = i .is; past = past-identifier o at x (i .is) }
+typed-else (Bare t) h i = absurd (miss not-bare 2 tt h)
 
 pub typed-bare : {o : List ℕ} {form : Form} {at : ℕ} {t : ℤ} → form ≡ Bare t → mag t < 2 ^ 31 → at ≤ length o → TypedAt o form at (Standing at 0 (toZ w32 (ofZ w32 t)))
 typed-bare {t = t} e f h = rw (e, held {w = w32} {z = t} (record { sfits = f })) record { is = (refl, refl, refl); past = (omega arith, h) }

@@ -196,9 +196,8 @@ pub fn typed_at(src: &[u8], form: Form, at: usize) -> Typed
     ensures { λ r. ⌜ TypedAt (now (src .entry)) form at r ⌝ }
 {
     match form {
-        Form::Whole => identifier_at(src, at),
-        Form::Named => identifier_at(src, at),
         Form::Bare(t) => Typed::Standing(at, 0, t),
+        _ => identifier_at(src, at),
     }
 }
 

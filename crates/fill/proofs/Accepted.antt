@@ -14,11 +14,13 @@ use Rattle.format.specs.Values.{Head, Children, empty, child, Rule, counted, ri
 use Rattle.format.specs.Values.{Form as Forms}
 use Rattle.format.specs.Grammar.{Element, Good, Formed, less, Ints, Held, Fits, Leveled, Deep, Valid}
 use Rattle.laws.proofs.Types.{all-sized, sized, amount-fits}
-use Rattle.fill.specs.declared.Form.{Form}
-use Rattle.fill.specs.declared.Form.the-variants.{Whole, Bare}
-use Rattle.fill.specs.declared.Nest.{Nest}
+use Rattle.decide.specs.declared.Form.{Form}
+use Rattle.decide.specs.declared.Form.the-variants.{Whole, Named, Bare}
+use Rattle.decide.specs.declared.Nest.{Nest}
+use Rattle.decide.specs.Forms.{formOf, nestWith, turn}
+use Rattle.decide.specs.Gates.{nextLow}
 use Rattle.fill.specs.Numbers.{Stands}
-use Rattle.fill.specs.Rows.{several, formOf, nestWith, nestBy, nestOf, Dated, turn}
+use Rattle.fill.specs.Rows.{several, nestBy, nestOf, Dated}
 use Rattle.fill.specs.Filling.{Fillable}
 use Rattle.fill.proofs.Contained.{several-pieces}
 
@@ -26,12 +28,16 @@ use Rattle.fill.proofs.Contained.{several-pieces}
 abbrev pub FormIs : Form → Forms → Type 0
 FormIs Whole (whole once) = Unit {0}
 FormIs Whole (bare t) = ⊥
+FormIs Named (whole once) = Unit {0}
+FormIs Named (bare t) = ⊥
 FormIs (Bare s) (whole once) = ⊥
 FormIs (Bare s) (bare t) = (t ≡ s) × (kindOf t .carried ≡ true)
 
 stands-so : (w : Form) (f : Forms) (h : Head) → FormIs w f → Formed f h → Stands w h × (kindOf (h .ty) .carried ≡ true)
 stands-so Whole (whole once) h m g = ((g .has-own, g .ty-fits), g .ty-carried)
 stands-so Whole (bare t) h m g = absurd m
+stands-so Named (whole once) h m g = ((g .has-own, g .ty-fits), g .ty-carried)
+stands-so Named (bare t) h m g = absurd m
 stands-so (Bare s) (whole once) h m g = absurd m
 stands-so (Bare s) (bare t) h m g = ((g .0, g .1 ∙ m .0), ap (λ (z : ℤ). kindOf z .carried) (g .1) ∙ m .1)
 
@@ -39,11 +45,18 @@ form-is : (b : Bool) (t : ℤ) → Element b t → FormIs (formOf b t) (formed b
 form-is true t g = (refl, g .1)
 form-is false t g = tt
 
--- what a container still expects, for the format and for the code after i values
+-- what a container still expects, for the format and for the code from position or index `low` on
 abbrev pub Matches : Rule → Nest → ℕ → Type 0
-Matches (counted paired f g c p) n i = (n .indexed ≡ false) × (n .paired ≡ paired) × (c + i ≡ n .count) × (p ≡ i) × FormIs (turn (n .form) (n .other) i) f × FormIs (turn (n .form) (n .other) (suc i)) g
-Matches (rising f top low) n i = (n .indexed ≡ true) × (top ≤ 2 ^ 31) × FormIs (turn (n .form) (n .other) i) f × FormIs (turn (n .form) (n .other) (suc i)) f
-Matches (moments d) n i = ⊥
+Matches (counted paired f g c p) n low = (n .indexed ≡ false) × (n .paired ≡ paired) × (c + low ≡ n .count) × (p ≡ low) × FormIs (turn (n .form) (n .other) low) f × FormIs (turn (n .form) (n .other) (suc low)) g
+Matches (rising f top least) n low = (n .indexed ≡ true) × (top ≡ n .count) × (top ≤ 2 ^ 31) × (least ≡ low) × FormIs (n .form) f × FormIs (n .other) f
+Matches (moments d) n low = ⊥
+
+form-turn : (a b : Form) (f : Forms) (i : ℕ) → FormIs a f → FormIs b f → FormIs (turn a b i) f
+form-turn a b f i p q = by (eqb (i % 2) 0)
+  where
+    by : (t : Bool) → FormIs (cond t a b) f
+    by true = p
+    by false = q
 
 turn-two : (f g : Form) (i : ℕ) → turn f g (suc (suc i)) ≡ turn f g i
 turn-two f g i = let e : suc (suc i) % 2 ≡ i % 2 = omega arith in rw e
@@ -64,8 +77,8 @@ rule-matches h cs g couples e p = (refl, refl, add-zero _, refl, form-is (kindOf
 rule-matches h cs g indexes e p =
     let f = form-is (kindOf (h .ty) .first) (h .first) (g .first-good) in
     let l : mag (h .number) < 2 ^ 31 = amount-fits (kindOf (h .ty) .datum) (h .number) (subst (λ (x : Holds). sized x (kindOf (h .ty) .datum) ≡ true) e (all-sized (h .ty))) (g .number-good) in
-    (refl, omega arith, f, f)
-rule-matches h cs g properties e p = (refl, lit≤ tt, tt, tt)
+    (refl, refl, omega arith, refl, f, f)
+rule-matches h cs g properties e p = (refl, refl, lit≤ tt, refl, tt, tt)
 rule-matches h cs g one e p = (refl, refl, refl, refl, tt, tt)
 rule-matches h cs g (parts d) e p = let z : _≡_ {A = ℕ} 0 1 = cc in absurd (omega arith)
 
@@ -116,15 +129,15 @@ inner lv h cs again g = by (kindOf (h .ty) .holds) refl
         let n : several cs ≡ length p = ap several (f .are-pieces) ∙ several-pieces 0 p in
         (f, subst (λ (y : Children). Fillable (suc lv) (nestWith false false (Bare (negsuc 1)) (Bare (negsuc 1)) (several cs)) 0 y) (sym (f .are-pieces)) (pieces-fillable lv 0 p (several cs) (omega arith) (f .are-ints)))
 
-pub fillable : (lv : ℕ) (r : Rule) (n : Nest) (i : ℕ) (cs : Children) → Matches r n i → Fits r cs → Deep lv cs → Fillable (suc lv) n i cs
+pub fillable : (lv : ℕ) (r : Rule) (n : Nest) (low : ℕ) (cs : Children) → Matches r n low → Fits r cs → Deep lv cs → Fillable (suc lv) n low cs
 unfolding Fits Deep Fillable
-fillable lv (counted paired f g c p) n i empty m e d = rw (m .0) (omega (arith, m .2, e))
-fillable lv (rising f top low) n i empty m e d = rw (m .0) tt
-fillable lv (moments w) n i empty m e d = absurd m
-fillable zero r n i (child j h cs more) m e d = absurd d
-fillable (suc lv) (moments w) n i (child j h cs more) m e d = absurd m
-fillable (suc lv) (counted paired f g c p) n i (child j h cs more) m e d =
-    let s = stands-so (turn (n .form) (n .other) i) f h (m .4) (e .0 .2) in
+fillable lv (counted paired f g c p) n low empty m e d = rw (m .0) (omega (arith, m .2, e))
+fillable lv (rising f top least) n low empty m e d = rw (m .0) tt
+fillable lv (moments w) n low empty m e d = absurd m
+fillable zero r n low (child j h cs more) m e d = absurd d
+fillable (suc lv) (moments w) n low (child j h cs more) m e d = absurd m
+fillable (suc lv) (counted paired f g c p) n low (child j h cs more) m e d =
+    let s = stands-so (turn (n .form) (n .other) low) f h (m .4) (e .0 .2) in
     let w = inner lv h cs (λ r k. fillable lv r k 0 cs) (e .1) (e .2) (d .0) in (
       rw (m .0, m .1) (omega (arith, m .2, e .0 .0), e .0 .1 ∙ ap (label paired) (m .3)),
       s .0,
@@ -132,18 +145,19 @@ fillable (suc lv) (counted paired f g c p) n i (child j h cs more) m e d =
       e .1,
       w .0,
       w .1,
-      fillable (suc lv) (counted paired g f (less c) (suc p)) n (suc i) more (m .0, m .1, fewer c i (n .count) (e .0 .0) (m .2), ap suc (m .3), m .5, subst (λ (y : Form). FormIs y f) (sym (turn-two (n .form) (n .other) i)) (m .4)) (e .3) (d .1),
+      subst (λ (x : Bool). Fillable (suc (suc lv)) n (nextLow x j low) more) (sym (m .0))
+          (fillable (suc lv) (counted paired g f (less c) (suc p)) n (suc low) more (m .0, m .1, fewer c low (n .count) (e .0 .0) (m .2), ap suc (m .3), m .5, subst (λ (y : Form). FormIs y f) (sym (turn-two (n .form) (n .other) low)) (m .4)) (e .3) (d .1)),
     )
-fillable (suc lv) (rising f top low) n i (child j h cs more) m e d =
-    let s = stands-so (turn (n .form) (n .other) i) f h (m .2) (e .0 .2) in
+fillable (suc lv) (rising f top least) n low (child j h cs more) m e d =
+    let s = stands-so (turn (n .form) (n .other) low) f h (form-turn (n .form) (n .other) f low (m .4) (m .5)) (e .0 .2) in
     let w = inner lv h cs (λ r k. fillable lv r k 0 cs) (e .1) (e .2) (d .0) in (
-      rw (m .0) (omega (arith, m .1, e .0 .1)),
+      rw (m .0) (omega (arith, m .3, e .0 .0), omega (arith, m .1, e .0 .1), omega (arith, m .2, e .0 .1)),
       s .0,
       s .1,
       e .1,
       w .0,
       w .1,
-      fillable (suc lv) (rising f top (suc j)) n (suc i) more (m .0, m .1, m .3, subst (λ (y : Form). FormIs y f) (sym (turn-two (n .form) (n .other) i)) (m .2)) (e .3) (d .1),
+      subst (λ (x : Bool). Fillable (suc (suc lv)) n (nextLow x j low) more) (sym (m .0)) (fillable (suc lv) (rising f top (suc j)) n (suc j) more (m .0, m .1, m .2, refl, m .4, m .5) (e .3) (d .1)),
     )
 
 -- the outermost value, as the one value of a container: with one level more, for the integers of a date or time

@@ -5,15 +5,16 @@ use Prim.Native.Nat.{ℕ, _+_, _-_, _*_, _^_, _<_, _≤_}
 use native.Mathlib.Omega.{arith}
 use Rattle.format.specs.declared.Row.{Row}
 use Rattle.format.specs.Writing.{Table}
-use Rattle.fill.specs.declared.Form.{Form}
-use Rattle.fill.specs.declared.Nest.{Nest}
+use Rattle.decide.specs.declared.Form.{Form}
+use Rattle.decide.specs.declared.Nest.{Nest}
+use Rattle.decide.specs.declared.Next.{Next}
+use Rattle.decide.specs.declared.Next.the-variants.{Value, End}
+use Rattle.decide.specs.Gates.{nextLow, pastNext, NextAt}
 use Rattle.fill.specs.declared.Found.{Found}
 use Rattle.fill.specs.declared.Found.the-variants.{Leaf, Holder}
-use Rattle.fill.specs.declared.Next.{Next}
-use Rattle.fill.specs.declared.Next.the-variants.{End, Value as Following}
 use Rattle.fill.specs.declared.Step.{Step}
 use Rattle.fill.specs.Columns.{Stored}
-use Rattle.fill.specs.Rows.{pastNext, NextAt, pastFound, RowAt}
+use Rattle.fill.specs.Rows.{pastFound, RowAt}
 use Rattle.fill.specs.Filling.{Ready, FilledValue}
 use Rattle.fill.proofs.Columns.{roomy}
 use Rattle.fill.proofs.Elements.{Turn}
@@ -39,19 +40,19 @@ stored-as {lim} {k} {t = t} {t' = t'} e s = subst (λ (x : Row). Stored lim k x 
 pub turned : {o : List ℕ} {lim : ℕ} {f g : Form} {i at k d : ℕ} {t : Table} {r : Step} {t' : Table} → f ≡ g → FilledValue o lim f i at k d t r t' → FilledValue o lim g i at k d t r t'
 turned {o} {lim} {i = i} {at = at} {k = k} {d = d} {t = t} {r = r} {t' = t'} e v = subst (λ (x : Form). FilledValue o lim x i at k d t r t') e v
 
-module _ {o : List ℕ} {lim d : ℕ} {n : Nest} {from base : ℕ} {t₀ : Table} {at i rows : ℕ} {t : Table} (tn : Turn o lim d n from base t₀ at i rows t) (ready : Ready o lim from base t₀) where
-  pub turn-count : i + 1 < 2 ^ 64
-  turn-count = omega (arith, tn .steps, tn .room, ready .few)
-
-  module _ {g : Next} (follow : NextAt o (n .indexed) (n .paired) (n .count) i at g) where
+module _ {o : List ℕ} {lim d : ℕ} {n : Nest} {from base : ℕ} {t₀ : Table} {at low rows : ℕ} {t : Table} (tn : Turn o lim d n from base t₀ at low rows t) (ready : Ready o lim from base t₀) where
+  module _ {g : Next} (follow : NextAt o (n .indexed) (n .paired) (n .count) low at g) where
     pub turn-ends : {next : ℕ} → g ≡ End next → (rows - base < 2 ^ 32) × (next < 2 ^ 32)
-    turn-ends q = let p = subst (pastNext o (n .indexed) (n .count) i at) q (follow .past) in (omega (arith, tn .room, ready .few), omega (arith, p .1, ready .short))
+    turn-ends q = let p = subst (pastNext o (n .indexed) (n .count) low at) q (follow .past) in (omega (arith, tn .room, ready .few), omega (arith, p .1, ready .short))
 
-    pub turn-ready : {next j : ℕ} → g ≡ Following next j → Ready o lim next rows t
-    turn-ready q = let p = subst (pastNext o (n .indexed) (n .count) i at) q (follow .past) in record { room = roomy (tn .kept) (ready .room); short = ready .short; few = ready .few; inside = p .1; below = tn .room }
+    pub turn-ready : {next j : ℕ} → g ≡ Value next j → Ready o lim next rows t
+    turn-ready q = let p = subst (pastNext o (n .indexed) (n .count) low at) q (follow .past) in record { room = roomy (tn .kept) (ready .room); short = ready .short; few = ready .few; inside = p .1; below = tn .room }
 
-pub turn-more : {o : List ℕ} {lim d : ℕ} {n : Nest} {from base : ℕ} {t₀ : Table} {at i rows : ℕ} {t : Table} → Turn o lim d n from base t₀ at i rows t → base ≤ rows
-turn-more tn = omega (arith, tn .steps)
+    pub turn-low : {next j : ℕ} → g ≡ Value next j → n .count < 2 ^ 32 → nextLow (n .indexed) j low < 2 ^ 32
+    turn-low q s = let p = subst (pastNext o (n .indexed) (n .count) low at) q (follow .past) in omega (arith, p .3)
+
+pub turn-more : {o : List ℕ} {lim d : ℕ} {n : Nest} {from base : ℕ} {t₀ : Table} {at low rows : ℕ} {t : Table} → Turn o lim d n from base t₀ at low rows t → base ≤ rows
+turn-more tn = tn .steps
 
 pub leaf-end : {o : List ℕ} {form : Form} {i at : ℕ} {x : Found} {lim k : ℕ} {t : Table} {row : Row} → RowAt o form i at x → x ≡ Leaf row → Ready o lim at k t → row .end < 2 ^ 64
 leaf-end {o} {at = at} x q r = let p = subst (pastFound o at) q (x .past) in omega (arith, p .1, r .short)

@@ -33,15 +33,16 @@ use Rattle.decide.specs.declared.Element.{Element}
 use Rattle.decide.specs.declared.Element.the-variants.{Of, NoType}
 use Rattle.decide.specs.Classes.{holdsOf}
 use Rattle.decide.specs.Elements.{AmountAt}
-use Rattle.fill.specs.declared.Form.the-variants.{Whole, Bare}
+use Rattle.decide.specs.declared.Form.the-variants.{Named, Bare}
+use Rattle.decide.specs.Forms.{nestWith, nestIn}
 use Rattle.fill.specs.declared.Fore.{Fore}
-use Rattle.fill.specs.declared.Nest.{Nest}
+use Rattle.decide.specs.declared.Nest.{Nest}
 use Rattle.fill.specs.declared.Numbered.the-variants.{Number}
 use Rattle.fill.specs.declared.Data.the-variants.{Holder, Unread}
-use Rattle.fill.specs.Numbers.{Begins, ElementaryAt, NumberAt}
-use Rattle.fill.specs.Rows.{several, nestWith, nestBy, nestIn, foreWith, foreOf, dataWith, DataAt}
+use Rattle.fill.specs.Numbers.{Begins, NumberAt}
+use Rattle.fill.specs.Rows.{several, nestBy, foreWith, foreOf, dataWith, DataAt}
 use Rattle.fill.proofs.Begins.{unnamed, found, not-refused, moved}
-use Rattle.fill.proofs.Numbers.{element-none, amount-past, amount-held, amount-found, amount-missing}
+use Rattle.fill.proofs.Numbers.{ElementaryAt, element-none, amount-past, amount-held, amount-found, amount-missing}
 use Rattle.fill.proofs.Fores.{data-untyped, data-untyped-2, data-unnumbered, value-same, types-same, fore-bare, fore-past}
 
 -- ---- dates and times
@@ -97,12 +98,12 @@ module _ {o : List ℕ} {at : ℕ} (inside : at ≤ length o) {x : Amount} (amou
   pub identity-unnumbered : {y : Refusal} → x ≡ NoNumber y → DataAt o (container false false one gives) at Unread
   identity-unnumbered q = data-unnumbered (container false false one gives) (element-none refl inside) refl (element-none refl inside) refl (amount-missing amounts q) refl
 
-  pub identity-holder : {next n : ℕ} → x ≡ Amounts next n → {f : Fore} → f ≡ foreWith (pos 0) (pos 0) (toZ w64 n) 0 next → {m : Nest} → m ≡ nestWith false false Whole Whole 1 → DataAt o (container false false one gives) at (Holder f m)
+  pub identity-holder : {next n : ℕ} → x ≡ Amounts next n → {f : Fore} → f ≡ foreWith (pos 0) (pos 0) (toZ w64 n) 0 next → {m : Nest} → m ≡ nestWith false false Named Named 1 → DataAt o (container false false one gives) at (Holder f m)
   identity-holder q e r =
       let p = fore-past (container false false one gives) (element-none refl inside) refl (element-none refl inside) refl (amount-found amounts q) refl in
       rw (e, r, amount-held amounts q) record {
         past = ((p .0, p .1, omega arith), omega arith);
-        same = λ h cs g d b b'. ap (λ (f : Fore). Holder f (nestWith false false Whole Whole 1)) (fore-bare (container false false one gives) (element-none refl inside) refl (element-none refl inside) refl (amount-found amounts q) refl refl h g b);
+        same = λ h cs g d b b'. ap (λ (f : Fore). Holder f (nestWith false false Named Named 1)) (fore-bare (container false false one gives) (element-none refl inside) refl (element-none refl inside) refl (amount-found amounts q) refl refl h g b);
       }
 
 -- ---- containers

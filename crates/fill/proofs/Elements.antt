@@ -5,50 +5,55 @@ use mathlib.Core.List.{List, _++_, append-nil, append-assoc}
 use Prim.Native.Nat.{ℕ, zero, suc, _+_, _-_, _<_, _≤_}
 use native.Mathlib.Omega.{arith}
 use native.Mathlib.Nat.{add-zero}
-use native.Mathlib.Numerals.{add-one}
 use lib.ListN.{length, length-append}
 use lib.IntN.{pos, negsuc}
+use Rattle.reading.specs.declared.Refusal.{Refusal}
 use Rattle.format.specs.declared.Row.{Row}
 use Rattle.format.specs.Values.{Head, Children, empty, child, value, ruleOf}
 use Rattle.format.specs.Spelling.{fore, indexed, index, spellChildren, spell}
 use Rattle.format.specs.Rows.{count, rowsFrom}
 use Rattle.format.specs.Writing.{Table}
-use Rattle.fill.specs.declared.Nest.{Nest}
-use Rattle.fill.specs.declared.Next.{Next}
-use Rattle.fill.specs.declared.Next.the-variants.{End, Value as Following, Unread as NoNext}
+use Rattle.decide.specs.declared.Nest.{Nest}
+use Rattle.decide.specs.declared.Next.{Next}
+use Rattle.decide.specs.declared.Next.the-variants.{Value, End, Halt}
+use Rattle.decide.specs.Forms.{turn}
+use Rattle.decide.specs.Gates.{nextLow, pastNext, NextAt}
 use Rattle.fill.specs.declared.Step.{Step}
 use Rattle.fill.specs.declared.Step.the-variants.{On, Unread}
 use Rattle.fill.specs.Columns.{Kept, Stored, putRow, puts}
 use Rattle.fill.specs.Numbers.{Begins}
-use Rattle.fill.specs.Rows.{nestOf, turn, pastNext, Further, NextAt}
+use Rattle.fill.specs.Rows.{nestOf}
 use Rattle.fill.specs.Filling.{Fillable, Within, Fit, closed, Ready, Forth, FilledValue, FilledElements}
 use Rattle.fill.proofs.Begins.{begins-left, begins-right, moved}
+use Rattle.fill.proofs.Following.{follows, ended}
 use Rattle.fill.proofs.Columns.{kept-same, kept-trans, puts-append}
 use Rattle.fill.proofs.Values.{rows-count}
 
 -- the values still to come, of those (cs) that stand from `from` on: what is left to do comes to the same
-pub record Left (o : List ℕ) (lim d : ℕ) (n : Nest) (from base : ℕ) (t₀ : Table) (cs : Children) (at i rows : ℕ) (t : Table) : Type 0 where
+pub record Left (o : List ℕ) (lim d : ℕ) (n : Nest) (from base : ℕ) (t₀ : Table) (cs : Children) (at low rows : ℕ) (t : Table) : Type 0 where
   pub left : Children
-  pub fits : Fillable d n i left
+  pub fits : Fillable d n low left
   pub begun : Begins o at (spellChildren (n .indexed) left)
   pub rows-same : rows + count left ≡ base + count cs
   pub place-same : at + length (spellChildren (n .indexed) left) ≡ from + length (spellChildren (n .indexed) cs)
   pub table-same : puts lim t rows (rowsFrom (n .indexed) at left) ≡ puts lim t₀ base (rowsFrom (n .indexed) from cs)
 
 -- what a turn of the loop begins with
-pub record Turn (o : List ℕ) (lim d : ℕ) (n : Nest) (from base : ℕ) (t₀ : Table) (at i rows : ℕ) (t : Table) : Type 0 where
+pub record Turn (o : List ℕ) (lim d : ℕ) (n : Nest) (from base : ℕ) (t₀ : Table) (at low rows : ℕ) (t : Table) : Type 0 where
   pub inside : at ≤ length o
   pub past : from ≤ at
-  pub steps : base + i ≤ rows
+  pub steps : base ≤ rows
+  pub apt : low ≤ n .count
   pub room : rows ≤ lim
   pub kept : Kept t t₀
-  pub rest : (cs : Children) → Fillable d n 0 cs → Begins o from (spellChildren (n .indexed) cs) → base + count cs ≤ lim → Left o lim d n from base t₀ cs at i rows t
+  pub rest : (cs : Children) → Fillable d n 0 cs → Begins o from (spellChildren (n .indexed) cs) → base + count cs ≤ lim → Left o lim d n from base t₀ cs at low rows t
 
 pub turn-first : {o : List ℕ} {lim d : ℕ} {n : Nest} {from base : ℕ} {t : Table} → Ready o lim from base t → Turn o lim d n from base t from 0 base t
 turn-first r = record {
   inside = r .inside;
   past = omega arith;
   steps = omega arith;
+  apt = omega arith;
   room = r .below;
   kept = kept-same;
   rest = λ cs f b l. record { left = cs; fits = f; begun = b; rows-same = refl; place-same = refl; table-same = refl };
@@ -71,15 +76,15 @@ child-rows x at next j h cs more e = rw (e, add-zero, append-nil (rowsFrom (inde
 -- what comes next of values
 abbrev nextOf : Bool → ℕ → Children → Next
 nextOf x at empty = End (at + length (index x (negsuc 0)))
-nextOf x at (child j h cs more) = Following (at + length (index x (pos j))) j
+nextOf x at (child j h cs more) = Value (at + length (index x (pos j))) j
 
-no-value : {a b j : ℕ} → _≡_ {A = Next} (End a) (Following b j) → ⊥
+no-value : {a b j : ℕ} → _≡_ {A = Next} (End a) (Value b j) → ⊥
 no-value h = let z : _≡_ {A = ℕ} 0 1 = cc in omega arith
 
-following-place : {a b i j : ℕ} → _≡_ {A = Next} (Following a i) (Following b j) → a ≡ b
+following-place : {a b i j : ℕ} → _≡_ {A = Next} (Value a i) (Value b j) → a ≡ b
 following-place h = cc
 
-following-label : {a b i j : ℕ} → _≡_ {A = Next} (Following a i) (Following b j) → i ≡ j
+following-label : {a b i j : ℕ} → _≡_ {A = Next} (Value a i) (Value b j) → i ≡ j
 following-label h = cc
 
 end-place : {a b : ℕ} → _≡_ {A = Next} (End a) (End b) → a ≡ b
@@ -91,47 +96,43 @@ on-next h = cc
 on-rows : {a b m n : ℕ} → _≡_ {A = Step} (On a m) (On b n) → m ≡ n
 on-rows h = cc
 
-no-next : {a : Next} → NoNext ≡ a → (x : Bool) (at : ℕ) (cs : Children) → a ≡ nextOf x at cs → ⊥
+no-next : {r : Refusal} {a : Next} → Halt r ≡ a → (x : Bool) (at : ℕ) (cs : Children) → a ≡ nextOf x at cs → ⊥
 no-next e x at empty q = let z : _≡_ {A = ℕ} 0 1 = cc in omega arith
 no-next e x at (child j h cs more) q = let z : _≡_ {A = ℕ} 0 1 = cc in omega arith
 
 no-step : {a m : ℕ} → _≡_ {A = Step} Unread (On a m) → ⊥
 no-step h = let z : _≡_ {A = ℕ} 0 1 = cc in omega arith
 
-falls : (x : Bool) (count i at next at₂ long : ℕ) → Further x count i at next → at ≤ next → next ≤ long → next ≤ at₂ → at₂ ≤ long → count - (i + 1) + (long - at₂) < count - i + (long - at)
-falls true count i at next at₂ long f a b c d = omega arith
-falls false count i at next at₂ long f a b c d = omega arith
-
-module _ {o : List ℕ} {lim d : ℕ} {n : Nest} {from base : ℕ} {t₀ : Table} {at i rows : ℕ} {t : Table} (tn : Turn o lim d n from base t₀ at i rows t) {g : Next} (follow : NextAt o (n .indexed) (n .paired) (n .count) i at g) where
-  next-is : (d' : ℕ) (cs : Children) → Fillable d' n i cs → Begins o at (spellChildren (n .indexed) cs) → g ≡ nextOf (n .indexed) at cs
+module _ {o : List ℕ} {lim d : ℕ} {n : Nest} {from base : ℕ} {t₀ : Table} {at low rows : ℕ} {t : Table} (tn : Turn o lim d n from base t₀ at low rows t) {g : Next} (follow : NextAt o (n .indexed) (n .paired) (n .count) low at g) where
+  next-is : (d' : ℕ) (cs : Children) → Fillable d' n low cs → Begins o at (spellChildren (n .indexed) cs) → g ≡ nextOf (n .indexed) at cs
   unfolding Fillable spellChildren
-  next-is d empty f b = follow .ends f b
+  next-is d empty f b = ended follow f b
   next-is zero (child j h cs more) f b = absurd f
-  next-is (suc d) (child j h cs more) f b = follow .follows j (f .0) (begins-left (index (n .indexed) (pos j)) _ b)
+  next-is (suc d) (child j h cs more) f b = follows follow j (f .0) (begins-left (index (n .indexed) (pos j)) _ b)
 
-  ends : {next : ℕ} → g ≡ End next → (cs left : Children) → Fillable d n i left → Begins o at (spellChildren (n .indexed) left) → rows + count left ≡ base + count cs
+  ends : {next : ℕ} → g ≡ End next → (cs left : Children) → Fillable d n low left → Begins o at (spellChildren (n .indexed) left) → rows + count left ≡ base + count cs
       → at + length (spellChildren (n .indexed) left) ≡ from + length (spellChildren (n .indexed) cs) → puts lim t rows (rowsFrom (n .indexed) at left) ≡ puts lim t₀ base (rowsFrom (n .indexed) from cs)
       → (rows ≡ base + count cs) × (next ≡ from + length (spellChildren (n .indexed) cs)) × (t ≡ puts lim t₀ base (rowsFrom (n .indexed) from cs))
   unfolding spellChildren rowsFrom puts count
   ends q cs empty f b r p e = (sym (add-zero rows) ∙ r, end-place (sym q ∙ next-is d empty f b) ∙ p, e)
   ends q cs (child j h inner more) f b r p e = absurd (no-value (sym q ∙ next-is d (child j h inner more) f b))
 
-  module _ {next j : ℕ} (q : g ≡ Following next j) {r : Step} {t' : Table} (filled : FilledValue o lim (turn (n .form) (n .other) i) j next rows d t r t') where
-    value-is : (d' : ℕ) → d ≡ suc d' → (j' : ℕ) (h : Head) (cs more : Children) → Fillable (suc d') n i (child j' h cs more) → Begins o at (spellChildren (n .indexed) (child j' h cs more)) → rows + count (child j' h cs more) ≤ lim
+  module _ {next j : ℕ} (q : g ≡ Value next j) {r : Step} {t' : Table} (filled : FilledValue o lim (turn (n .form) (n .other) low) j next rows d t r t') where
+    value-is : (d' : ℕ) → d ≡ suc d' → (j' : ℕ) (h : Head) (cs more : Children) → Fillable (suc d') n low (child j' h cs more) → Begins o at (spellChildren (n .indexed) (child j' h cs more)) → rows + count (child j' h cs more) ≤ lim
         → (next ≡ at + length (index (n .indexed) (pos j'))) × (j ≡ j') × (r ≡ On (next + length (spell (value h cs))) (rows + suc (count cs))) × (t' ≡ puts lim t rows (rowsFrom false next (child j h cs empty)))
     unfolding Fillable count
     value-is d' e j' h cs more f b l =
-        let w : Following next j ≡ Following (at + length (index (n .indexed) (pos j'))) j' = sym q ∙ next-is (suc d') (child j' h cs more) f b in
+        let w : Value next j ≡ Value (at + length (index (n .indexed) (pos j'))) j' = sym q ∙ next-is (suc d') (child j' h cs more) f b in
         let b' = begins-right (index (n .indexed) (pos j')) (spell (value h cs) ++ spellChildren (n .indexed) more) (subst (Begins o at) (child-spelt (n .indexed) j' h cs more) b) in
-        let fit : Fit d (turn (n .form) (n .other) i) h cs = record { stands = f .1; carried = f .2; good = f .3; dated = f .4; within = subst (λ (y : ℕ). Within y (nestOf h cs) cs) (sym e) (f .5) } in
+        let fit : Fit d (turn (n .form) (n .other) low) h cs = record { stands = f .1; carried = f .2; good = f .3; dated = f .4; within = subst (λ (y : ℕ). Within y (nestOf h cs) cs) (sym e) (f .5) } in
         let s = filled .same h cs fit (moved (following-place w) (begins-left (spell (value h cs)) (spellChildren (n .indexed) more) b')) (omega arith) in
         (following-place w, following-label w, s .0, s .1)
 
     abbrev Step-on : ℕ → ℕ → Children → Type 0
-    Step-on at₂ rows₂ left = (more : Children) × Fillable d n (suc i) more × Begins o at₂ (spellChildren (n .indexed) more) × (rows₂ + count more ≡ rows + count left)
+    Step-on at₂ rows₂ left = (more : Children) × Fillable d n (nextLow (n .indexed) j low) more × Begins o at₂ (spellChildren (n .indexed) more) × (rows₂ + count more ≡ rows + count left)
         × (at₂ + length (spellChildren (n .indexed) more) ≡ at + length (spellChildren (n .indexed) left)) × (puts lim t' rows₂ (rowsFrom (n .indexed) at₂ more) ≡ puts lim t rows (rowsFrom (n .indexed) at left))
 
-    step-on : {at₂ rows₂ : ℕ} → r ≡ On at₂ rows₂ → (d' : ℕ) → d' ≡ d → (left : Children) → Fillable d' n i left → Begins o at (spellChildren (n .indexed) left) → rows + count left ≤ lim → Step-on at₂ rows₂ left
+    step-on : {at₂ rows₂ : ℕ} → r ≡ On at₂ rows₂ → (d' : ℕ) → d' ≡ d → (left : Children) → Fillable d' n low left → Begins o at (spellChildren (n .indexed) left) → rows + count left ≤ lim → Step-on at₂ rows₂ left
     unfolding Fillable count
     step-on z d' e empty f b l = absurd (no-value (sym (next-is d' empty f b) ∙ q))
     step-on z zero e (child j' h cs more) f b l = absurd f
@@ -142,7 +143,7 @@ module _ {o : List ℕ} {lim d : ℕ} {n : Nest} {from base : ℕ} {t₀ : Table
         let b' = begins-right (spell (value h cs)) (spellChildren (n .indexed) more) (begins-right (index (n .indexed) (pos j')) (spell (value h cs) ++ spellChildren (n .indexed) more) (subst (Begins o at) (child-spelt (n .indexed) j' h cs more) b)) in
         let long : rows₂ ≡ rows + length (rowsFrom false next (child j h cs empty)) = row ∙ ap (λ (y : ℕ). rows + y) (sym (rows-count false next (child j h cs empty) ∙ ap suc (add-zero (count cs)))) in (
           more,
-          subst (λ (y : ℕ). Fillable y n (suc i) more) e (f .6),
+          subst (λ (y : ℕ). Fillable d n (nextLow (n .indexed) y low) more) (sym (v .1)) (subst (λ (y : ℕ). Fillable y n (nextLow (n .indexed) j' low) more) e (f .6)),
           moved (place ∙ ap (λ (y : ℕ). y + length (spell (value h cs))) (v .0)) b',
           omega arith,
           omega (arith, child-long (n .indexed) j' h cs more, v .0),
@@ -150,26 +151,26 @@ module _ {o : List ℕ} {lim d : ℕ} {n : Nest} {from base : ℕ} {t₀ : Table
               ∙ ap (puts lim t rows) (ap₂ (λ (y z : ℕ). rowsFrom false next (child y h cs empty) ++ rowsFrom (n .indexed) z more) (v .1) place ∙ sym (child-rows (n .indexed) at next j' h cs more (v .0))),
         )
 
-    stop-on : r ≡ Unread → (d' : ℕ) → d' ≡ d → (left : Children) → Fillable d' n i left → Begins o at (spellChildren (n .indexed) left) → rows + count left ≤ lim → ⊥
+    stop-on : r ≡ Unread → (d' : ℕ) → d' ≡ d → (left : Children) → Fillable d' n low left → Begins o at (spellChildren (n .indexed) left) → rows + count left ≤ lim → ⊥
     unfolding Fillable
     stop-on z d' e empty f b l = no-value (sym (next-is d' empty f b) ∙ q)
     stop-on z zero e (child j' h cs more) f b l = f
     stop-on z (suc d') e (child j' h cs more) f b l = no-step (sym z ∙ value-is d' (sym e) j' h cs more f b l .2)
 
-    pub turn-less : {at₂ rows₂ : ℕ} → r ≡ On at₂ rows₂ → n .count - (i + 1) + (length o - at₂) < n .count - i + (length o - at)
-    turn-less {at₂} {rows₂} z =
-        let p = subst (pastNext o (n .indexed) (n .count) i at) q (follow .past) in
-        let v = subst (Forth o lim next (suc rows)) z (filled .forth) in
-        falls (n .indexed) (n .count) i at next at₂ (length o) (p .2) (p .0) (p .1) (v .0) (v .1)
+    past : pastNext o (n .indexed) (n .count) low at (Value next j)
+    past = subst (pastNext o (n .indexed) (n .count) low at) q (follow .past)
 
-    pub turn-again : {at₂ rows₂ : ℕ} → r ≡ On at₂ rows₂ → Kept t' t → Turn o lim d n from base t₀ at₂ (i + 1) rows₂ t'
-    turn-again {at₂} {rows₂} z ks =
-        let p = subst (pastNext o (n .indexed) (n .count) i at) q (follow .past) in
+    pub turn-less : {low' : ℕ} → low' ≡ nextLow (n .indexed) j low → n .count - low' < n .count - low
+    turn-less z = omega (arith, past .2, past .3)
+
+    pub turn-again : {at₂ rows₂ low' : ℕ} → r ≡ On at₂ rows₂ → low' ≡ nextLow (n .indexed) j low → Kept t' t → Turn o lim d n from base t₀ at₂ low' rows₂ t'
+    turn-again {at₂} {rows₂} z w ks =
         let v = subst (Forth o lim next (suc rows)) z (filled .forth) in
-        record {
+        rw w record {
           inside = v .1;
-          past = omega (arith, tn .past, p .0, v .0);
+          past = omega (arith, tn .past, past .0, v .0);
           steps = omega (arith, tn .steps, v .2);
+          apt = past .3;
           room = v .3;
           kept = kept-trans ks (tn .kept);
           rest = λ cs f b l.
@@ -177,7 +178,7 @@ module _ {o : List ℕ} {lim d : ℕ} {n : Nest} {from base : ℕ} {t₀ : Table
               let s = step-on z d refl (lf .left) (lf .fits) (lf .begun) (omega (arith, lf .rows-same)) in
               record {
                 left = s .0;
-                fits = subst (λ (y : ℕ). Fillable d n y (s .0)) (sym (add-one i)) (s .1);
+                fits = s .1;
                 begun = s .2;
                 rows-same = s .3 ∙ lf .rows-same;
                 place-same = s .4 ∙ lf .place-same;
@@ -191,7 +192,7 @@ module _ {o : List ℕ} {lim d : ℕ} {n : Nest} {from base : ℕ} {t₀ : Table
       same = λ cs f b l. let lf = tn .rest cs f (moved e b) l in absurd (stop-on z d refl (lf .left) (lf .fits) (lf .begun) (omega (arith, lf .rows-same)));
     }
 
-  pub elements-unread : {row : Row} {k : ℕ} → from ≡ row .end → g ≡ NoNext → FilledElements o lim row n k base d t₀ Unread t
+  pub elements-unread : {y : Refusal} {row : Row} {k : ℕ} → from ≡ row .end → g ≡ Halt y → FilledElements o lim row n k base d t₀ Unread t
   elements-unread e z = record {
     forth = tt;
     same = λ cs f b l. let lf = tn .rest cs f (moved e b) l in absurd (no-next (sym z) (n .indexed) at (lf .left) (next-is d (lf .left) (lf .fits) (lf .begun)));
@@ -199,7 +200,7 @@ module _ {o : List ℕ} {lim d : ℕ} {n : Nest} {from base : ℕ} {t₀ : Table
 
   pub elements-end : {row : Row} {k next : ℕ} {t' : Table} → from ≡ row .end → g ≡ End next → Stored lim k (closed row (rows - base) next) t t' → FilledElements o lim row n k base d t₀ (On next rows) t'
   elements-end {row} {k} {next} {t'} e z st =
-      let p = subst (pastNext o (n .indexed) (n .count) i at) z (follow .past) in
+      let p = subst (pastNext o (n .indexed) (n .count) low at) z (follow .past) in
       record {
         forth = (omega (arith, tn .past, p .0, e), p .1, omega (arith, tn .steps), tn .room);
         same = λ cs f b l.

@@ -26,10 +26,10 @@ use Rattle.decide.specs.Elements.{AmountAt}
 use Rattle.fill.specs.declared.Numbered.{Numbered}
 use Rattle.fill.specs.declared.Numbered.the-variants.{Number, Missing}
 use Rattle.fill.specs.declared.Data.the-variants.{Leaf, Unread}
-use Rattle.fill.specs.Numbers.{Begins, pastElement, ElementaryAt, pastNumber, NumberAt}
+use Rattle.fill.specs.Numbers.{Begins, pastNumber, NumberAt}
 use Rattle.fill.specs.Rows.{nestBy, foreWith, foreOf, leafOf, dataWith, DataAt}
 use Rattle.fill.proofs.Begins.{begins-left, begins-right, moved}
-use Rattle.fill.proofs.Numbers.{element-none, amount-past, amount-held, amount-found, amount-missing, begins-long}
+use Rattle.fill.proofs.Numbers.{pastElement, ElementaryAt, element-none, amount-past, amount-held, amount-found, amount-missing, begins-long}
 
 of-next : {a b : ℕ} {e f : ℤ} → _≡_ {A = Element} (Of a e) (Of b f) → a ≡ b
 of-next h = cc

@@ -20,14 +20,15 @@ use Rattle.reading.specs.Reading.{Out, got, stand, follow, _>>=_, return}
 use Rattle.reading.proofs.Sound.{never}
 use Rattle.reading.proofs.Does.{Does}
 use Rattle.integer.specs.Packed.{wide32, wide64}
-use Rattle.integer.specs.declared.Read32.{Read32}
-use Rattle.integer.specs.declared.Read32.the-variants.{Int32, Refused32}
 use Rattle.integer.specs.declared.Read64.{Read64}
 use Rattle.integer.specs.declared.Read64.the-variants.{Int64, Refused64}
-use Rattle.integer.specs.Answers.{out32, past32, Reads32, out64, past64, Reads64}
+use Rattle.integer.specs.Answers.{out64, past64, Reads64}
 use Rattle.integer.proofs.Laws.{integer-does, enough32, enough64}
 use Rattle.integer.proofs.Signs.{held}
 use Rattle.format.specs.Types.{Datum, packed, fixed, code, amount, implied, Sort, integral, Kind, scalar, uncarried, table, kindOf}
+use Rattle.format.specs.Values.{Head}
+use Rattle.format.specs.Spelling.{identifier}
+use Rattle.format.specs.Grammar.{Int32, Element as Elements}
 use Rattle.format.specs.Data.{eqZ, bits, big, unsigned, number, spellNumber, spellElement, character, spellChar}
 use Rattle.laws.proofs.Sound.{owned, unowned}
 use Rattle.laws.proofs.Tests.{clash, and-left, and-right, eqZ-true}
@@ -43,50 +44,56 @@ use Rattle.decide.specs.declared.Element.{Element}
 use Rattle.decide.specs.declared.Element.the-variants.{Of, NoType}
 use Rattle.decide.specs.declared.Amount.{Amount}
 use Rattle.decide.specs.declared.Amount.the-variants.{Number as Amounts, NoNumber}
-use Rattle.decide.specs.Elements.{amountOut, pastAmount, AmountAt, ElementIs, ElementAt}
-use Rattle.fill.specs.declared.Form.the-variants.{Whole, Bare}
-use Rattle.fill.specs.declared.Typed.the-variants.{Standing, Untyped}
+use Rattle.decide.specs.Elements.{amountOut, pastAmount, AmountAt, TypeIs, TypeAt}
+use Rattle.decide.specs.declared.Form.{Form}
+use Rattle.decide.specs.declared.Form.the-variants.{Whole, Named, Bare}
+use Rattle.decide.specs.declared.Typed.{Typed}
+use Rattle.decide.specs.declared.Typed.the-variants.{Standing, Untyped}
+use Rattle.decide.specs.Forms.{IdentifierIs, TypedIs, TypedAt}
 use Rattle.fill.specs.declared.Numbered.the-variants.{Number, Missing}
-use Rattle.fill.specs.Numbers.{Begins, TypedAt, ElementaryAt, NumberAt, Implied}
+use Rattle.fill.specs.Numbers.{Begins, Stands, NumberAt, Implied}
 use Rattle.fill.proofs.Begins.{unnamed, same-place, same-value, read-is, found, not-refused}
 
 -- ---- types
 
-module _ {o : List ℕ} {at : ℕ} {x : Read32} (reads : Reads32 o at x) where
-  pub typed-whole : {next : ℕ} {t : ℤ} → x ≡ Int32 next t → mag t < 2 ^ 31 → TypedAt o Whole at (Standing next 1 (toZ w32 (ofZ w32 t)))
-  typed-whole {next} {t} q f =
-      let p = subst (past32 o at) q (reads .past) in
-      rw (held {w = w32} {z = t} (record { sfits = f })) record {
-        past = (omega arith, p .1);
-        same = λ h s b.
-            let w = found (integer-does wide32 enough32 (h .ty) unnamed (s .1)) (subst (Begins o at) (owned h (s .0)) b) (ap (out32 o unnamed) (sym q) ∙ reads .same unnamed) in
-            rw (owned h (s .0), ← w .1, ← w .0, s .0);
-      }
+-- the type of a value that stands in a form
+pub typed-is : {o : List ℕ} {form : Form} {at : ℕ} {x : Typed} → TypedAt o form at x → (h : Head) → Stands form h → Begins o at (identifier h) → x ≡ Standing (at + length (identifier h)) (h .own) (h .ty)
+typed-is {o} {form} {at} {x} typed h s b = by form x (typed .is) s
+  where
+    whole : (y : Typed) → IdentifierIs o at y → h .own ≡ 1 → Int32 (h .ty) → y ≡ Standing (at + length (identifier h)) (h .own) (h .ty)
+    whole (Standing from own t) i a f =
+        let w = found (integer-does wide32 enough32 (h .ty) unnamed f) (subst (Begins o at) (owned h a) b) (sym (i .3 unnamed)) in
+        rw (owned h a, ← w .1, ← w .0, a, i .0)
+    whole (Untyped r) i a f = absurd (not-refused (integer-does wide32 enough32 (h .ty) unnamed f) (subst (Begins o at) (owned h a) b) (sym (i unnamed)))
 
-  pub typed-unread : {y : Refusal} → x ≡ Refused32 y → TypedAt o Whole at Untyped
-  typed-unread q = record {
-    past = tt;
-    same = λ h s b. absurd (not-refused (integer-does wide32 enough32 (h .ty) unnamed (s .1)) (subst (Begins o at) (owned h (s .0)) b) (ap (out32 o unnamed) (sym q) ∙ reads .same unnamed));
-  }
+    by : (form : Form) (y : Typed) → TypedIs o form at y → Stands form h → y ≡ Standing (at + length (identifier h)) (h .own) (h .ty)
+    by Whole y i s = whole y i (s .0) (s .1)
+    by Named y i s = whole y i (s .0) (s .1)
+    by (Bare t) (Standing from own u) i s = rw (unowned h (s .0), add-zero, s .0, s .1, i .0, i .1, i .2)
+    by (Bare t) (Untyped r) i s = absurd i
 
-pub typed-bare : {o : List ℕ} {at : ℕ} {t : ℤ} → at ≤ length o → mag t < 2 ^ 31 → TypedAt o (Bare t) at (Standing at 0 (toZ w32 (ofZ w32 t)))
-typed-bare {o} {at} {t} h f = rw (held {w = w32} {z = t} (record { sfits = f })) record { past = (omega arith, h); same = λ y s b. rw (unowned y (s .0), add-zero, s .0, s .1) }
+-- ---- element types, where one stands
 
--- ---- element types
+abbrev pub pastElement : List ℕ → ℕ → Element → Type 0
+pastElement o at (Of next t) = (at ≤ next) × (next ≤ length o)
+pastElement o at (NoType r) = Unit {0}
 
-module _ {o : List ℕ} {at : ℕ} {x : Element} (element-at : ElementAt o at x) where
-  pub element-there : {on : Bool} → on ≡ true → ElementaryAt o on at x
-  element-there {on} stands = by x refl
-    where
-      by : (y : Element) → x ≡ y → ElementaryAt o on at x
-      by (Of next t) q = let p = subst (ElementIs o at) q (element-at .is) in rw (stands, q) record {
-        past = (omega arith, p .2);
-        same = λ y g b. let w = found (element-does true y unnamed g) b (sym (p .3 unnamed)) in rw (← w .1, ← w .0);
-      }
-      by (NoType r) q = let p = subst (ElementIs o at) q (element-at .is) in rw (stands, q) record {
-        past = tt;
-        same = λ y g b. absurd (not-refused (element-does true y unnamed g) b (sym (p unnamed)));
-      }
+pub record ElementaryAt (o : List ℕ) (on : Bool) (at : ℕ) (r : Element) : Type 0 where
+  pub past : pastElement o at r
+  pub same : (t : ℤ) → Elements on t → Begins o at (spellElement on t) → r ≡ Of (at + length (spellElement on t)) t
+
+pub elementary-at : {o : List ℕ} {on : Bool} {at : ℕ} {x : Element} → TypeAt o on at x → ElementaryAt o on at x
+elementary-at {o} {on} {at} {x} type-at = by x (type-at .is)
+  where
+    by : (y : Element) → TypeIs o on at y → ElementaryAt o on at y
+    by (Of next t) p = record {
+      past = (p .1, p .2);
+      same = λ y g b. let w = found (element-does on y unnamed g) b (sym (p .3 unnamed)) in rw (← w .1, ← w .0);
+    }
+    by (NoType r) p = record {
+      past = tt;
+      same = λ y g b. absurd (not-refused (element-does on y unnamed g) b (sym (p unnamed)));
+    }
 
 pub element-none : {o : List ℕ} {on : Bool} {at : ℕ} → on ≡ false → at ≤ length o → ElementaryAt o on at (Of at (pos 0))
 unfolding spellElement

@@ -6,21 +6,24 @@ use Prim.Native.Nat.{ℕ, _+_, _≤_}
 use native.Mathlib.Omega.{arith}
 use lib.ListN.{length, length-append}
 use lib.IntN.{ℤ}
+use Rattle.reading.specs.declared.Refusal.{Refusal}
 use Rattle.format.specs.declared.Row.{Row}
 use Rattle.format.specs.Types.{Holds, nothing, values, couples, indexes, properties, one, parts, kindOf}
 use Rattle.format.specs.Values.{Head, Children, Value}
 use Rattle.format.specs.Spelling.{identifier, dataBy, fore, spellChildren}
 use Rattle.format.specs.Grammar.{Good}
-use Rattle.fill.specs.declared.Form.{Form}
+use Rattle.decide.specs.declared.Form.{Form}
 use Rattle.fill.specs.declared.Fore.{Fore}
-use Rattle.fill.specs.declared.Typed.{Typed}
-use Rattle.fill.specs.declared.Typed.the-variants.{Standing, Untyped}
-use Rattle.fill.specs.declared.Nest.{Nest}
+use Rattle.decide.specs.declared.Typed.{Typed}
+use Rattle.decide.specs.declared.Typed.the-variants.{Standing, Untyped}
+use Rattle.decide.specs.declared.Nest.{Nest}
 use Rattle.fill.specs.declared.Data.{Data}
 use Rattle.fill.specs.declared.Data.the-variants.{Leaf, Holder, Unread}
 use Rattle.fill.specs.declared.Found.{Found}
 use Rattle.fill.specs.declared.Found.the-variants.{Leaf as LeafRow, Holder as HolderRow, Unread as NoRow}
-use Rattle.fill.specs.Numbers.{Begins, Stands, pastTyped, TypedAt}
+use Rattle.decide.specs.Forms.{pastTyped, TypedAt}
+use Rattle.fill.specs.Numbers.{Begins, Stands}
+use Rattle.fill.proofs.Numbers.{typed-is}
 use Rattle.fill.specs.Rows.{nestBy, nestOf, Dated, foreOf, dataWith, pastFore, pastData, DataOf, frontRow, rowWith, foundBy, pastFound, RowAt}
 use Rattle.fill.proofs.Begins.{begins-left, begins-right, moved}
 
@@ -33,7 +36,7 @@ standing-own h = cc
 standing-type : {a b m n : ℕ} {s t : ℤ} → _≡_ {A = Typed} (Standing a m s) (Standing b n t) → s ≡ t
 standing-type h = cc
 
-untyped : {b n : ℕ} {t : ℤ} → _≡_ {A = Typed} Untyped (Standing b n t) → ⊥
+untyped : {r : Refusal} {b n : ℕ} {t : ℤ} → _≡_ {A = Typed} (Untyped r) (Standing b n t) → ⊥
 untyped h = let z : _≡_ {A = ℕ} 0 1 = cc in omega arith
 
 pub typed-past : {o : List ℕ} {form : Form} {at : ℕ} {x : Typed} {from own : ℕ} {t : ℤ} → TypedAt o form at x → x ≡ Standing from own t → (at ≤ from) × (from ≤ length o)
@@ -54,9 +57,9 @@ unfolding fore
 fore-long h = length-append (identifier h) (dataBy (kindOf (h .ty)) h)
 
 type-is : {o : List ℕ} {form : Form} {at : ℕ} {x : Typed} → TypedAt o form at x → (h : Head) → Stands form h → Begins o at (fore h) → x ≡ Standing (at + length (identifier h)) (h .own) (h .ty)
-type-is typed h s b = typed .same h s (begins-left (identifier h) (dataBy (kindOf (h .ty)) h) (fore-is h b))
+type-is typed h s b = typed-is typed h s (begins-left (identifier h) (dataBy (kindOf (h .ty)) h) (fore-is h b))
 
-pub row-untyped : {o : List ℕ} {form : Form} {i at : ℕ} {x : Typed} → TypedAt o form at x → x ≡ Untyped → RowAt o form i at NoRow
+pub row-untyped : {o : List ℕ} {form : Form} {i at : ℕ} {x : Typed} {r : Refusal} → TypedAt o form at x → x ≡ Untyped r → RowAt o form i at NoRow
 row-untyped typed q = record { past = tt; same = λ v s k g d b b'. absurd (untyped (sym q ∙ type-is typed (v .top) s b)) }
 
 -- a row of each, from what stands before the values inside

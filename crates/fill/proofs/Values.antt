@@ -13,16 +13,17 @@ use Rattle.format.specs.Values.{Head, Children, empty, child, value, ruleBy, ru
 use Rattle.format.specs.Spelling.{fore, indexed, index, spellChildren, spell}
 use Rattle.format.specs.Rows.{count, rowsFrom}
 use Rattle.format.specs.Writing.{Table}
-use Rattle.fill.specs.declared.Form.{Form}
-use Rattle.fill.specs.declared.Form.the-variants.{Whole}
-use Rattle.fill.specs.declared.Nest.{Nest}
+use Rattle.decide.specs.declared.Form.{Form}
+use Rattle.decide.specs.declared.Form.the-variants.{Whole}
+use Rattle.decide.specs.declared.Nest.{Nest}
 use Rattle.fill.specs.declared.Found.{Found}
 use Rattle.fill.specs.declared.Found.the-variants.{Leaf, Holder, Unread as NoRow}
 use Rattle.fill.specs.declared.Step.{Step}
 use Rattle.fill.specs.declared.Step.the-variants.{On, Unread}
 use Rattle.fill.specs.Columns.{Stored, putRow, puts}
 use Rattle.fill.specs.Numbers.{Begins}
-use Rattle.fill.specs.Rows.{nestWith, nestBy, nestOf, foundBy, frontRow, pastFound, RowAt}
+use Rattle.decide.specs.Forms.{nestWith}
+use Rattle.fill.specs.Rows.{nestBy, nestOf, foundBy, frontRow, pastFound, RowAt}
 use Rattle.fill.specs.Filling.{Fillable, Within, Fit, closed, Forth, FilledValue, FilledElements}
 use Rattle.fill.proofs.Begins.{begins-left, begins-right, moved}
 

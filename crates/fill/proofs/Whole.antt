@@ -12,12 +12,12 @@ use Rattle.format.specs.Spelling.{spellChildren, spell}
 use Rattle.format.specs.Rows.{count, rowsFrom, rows}
 use Rattle.format.specs.Writing.{Table}
 use Rattle.laws.proofs.Rows.{alone-spelt}
-use Rattle.fill.specs.declared.Form.the-variants.{Whole}
-use Rattle.fill.specs.declared.Nest.{Nest}
+use Rattle.decide.specs.declared.Form.the-variants.{Whole}
+use Rattle.decide.specs.declared.Nest.{Nest}
 use Rattle.fill.specs.declared.Step.{Step}
 use Rattle.fill.specs.Columns.{Roomy, putRow, puts, Filled}
 use Rattle.fill.specs.Numbers.{Begins}
-use Rattle.fill.specs.Rows.{nestWith}
+use Rattle.decide.specs.Forms.{nestWith}
 use Rattle.fill.specs.Filling.{FilledElements, FilledIn}
 use Rattle.fill.proofs.Columns.{puts-filled}
 use Rattle.fill.proofs.Values.{rows-count}

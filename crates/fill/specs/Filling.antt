@@ -11,21 +11,23 @@ use Rattle.format.specs.Spelling.{spellChildren, spell}
 use Rattle.format.specs.Grammar.{Good, Valid}
 use Rattle.format.specs.Rows.{count, rowsFrom, rows}
 use Rattle.format.specs.Writing.{Table}
-use Rattle.fill.specs.declared.Form.{Form}
-use Rattle.fill.specs.declared.Nest.{Nest}
+use Rattle.decide.specs.declared.Form.{Form}
+use Rattle.decide.specs.declared.Nest.{Nest}
+use Rattle.decide.specs.Forms.{turn}
+use Rattle.decide.specs.Gates.{nextLow}
 use Rattle.fill.specs.declared.Step.{Step}
 use Rattle.fill.specs.declared.Step.the-variants.{On, Unread}
 use Rattle.fill.specs.Columns.{Roomy, putRow, puts, Filled}
 use Rattle.fill.specs.Numbers.{Begins, Stands}
-use Rattle.fill.specs.Rows.{nestOf, Dated, turn, Follows, Ended}
+use Rattle.fill.specs.Rows.{nestOf, Dated, Follows, Ended}
 
--- values that a container may hold after i others, and which stand at most d deep
+-- values that a container may hold from position or index `low` on, and which stand at most d deep
 unfoldable pub Fillable : ℕ → Nest → ℕ → Children → Type 0
-Fillable d n i empty = Ended (n .indexed) (n .count) i
-Fillable zero n i (child j h cs more) = ⊥
-Fillable (suc d) n i (child j h cs more) =
-    Follows (n .indexed) (n .paired) (n .count) i j × Stands (turn (n .form) (n .other) i) h × (kindOf (h .ty) .carried ≡ true) × Good (kindOf (h .ty)) h
-    × Dated (kindOf (h .ty) .holds) cs × Fillable d (nestOf h cs) 0 cs × Fillable (suc d) n (suc i) more
+Fillable d n low empty = Ended (n .indexed) (n .count) low
+Fillable zero n low (child j h cs more) = ⊥
+Fillable (suc d) n low (child j h cs more) =
+    Follows (n .indexed) (n .paired) (n .count) low j × Stands (turn (n .form) (n .other) low) h × (kindOf (h .ty) .carried ≡ true) × Good (kindOf (h .ty)) h
+    × Dated (kindOf (h .ty) .holds) cs × Fillable d (nestOf h cs) 0 cs × Fillable (suc d) n (nextLow (n .indexed) j low) more
 
 abbrev pub Within : ℕ → Nest → Children → Type 0
 Within zero n cs = ⊥

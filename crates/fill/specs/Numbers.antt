@@ -1,22 +1,16 @@
 -- What the code finds at a value of accepted octets: where the octets from a place on begin with a spelling, the answer is what was spelt and the place
 -- past it. Of other octets the answer tells only that its places lie in them.
 use mathlib.Core.Path.{_≡_}
-use mathlib.Core.Bool.{Bool}
 use mathlib.Core.List.{List, _++_}
 use Prim.Native.Nat.{ℕ, _+_, _≤_}
 use lib.ListN.{length, drop}
 use lib.IntN.{ℤ}
 use Rattle.format.specs.Types.{Datum, implied, Sort, scalar, kindOf}
-use Rattle.format.specs.Data.{spellNumber, spellElement}
+use Rattle.format.specs.Data.{spellNumber}
 use Rattle.format.specs.Values.{Head}
-use Rattle.format.specs.Spelling.{identifier}
-use Rattle.format.specs.Grammar.{Int32, Element as Elements, Number as Numbers}
-use Rattle.decide.specs.declared.Element.{Element}
-use Rattle.decide.specs.declared.Element.the-variants.{Of, NoType}
-use Rattle.fill.specs.declared.Form.{Form}
-use Rattle.fill.specs.declared.Form.the-variants.{Whole, Bare}
-use Rattle.fill.specs.declared.Typed.{Typed}
-use Rattle.fill.specs.declared.Typed.the-variants.{Standing, Untyped}
+use Rattle.format.specs.Grammar.{Int32, Number as Numbers}
+use Rattle.decide.specs.declared.Form.{Form}
+use Rattle.decide.specs.declared.Form.the-variants.{Whole, Named, Bare}
 use Rattle.fill.specs.declared.Numbered.{Numbered}
 use Rattle.fill.specs.declared.Numbered.the-variants.{Number, Missing}
 
@@ -25,29 +19,11 @@ pub record Begins (o : List ℕ) (at : ℕ) (u : List ℕ) : Type 0 where
   pub after : List ℕ
   pub begins : drop at o ≡ u ++ after
 
--- ---- the type
-
+-- a value that stands in a form
 abbrev pub Stands : Form → Head → Type 0
 Stands Whole h = (h .own ≡ 1) × Int32 (h .ty)
+Stands Named h = (h .own ≡ 1) × Int32 (h .ty)
 Stands (Bare t) h = (h .own ≡ 0) × (h .ty ≡ t)
-
-abbrev pub pastTyped : List ℕ → ℕ → Typed → Type 0
-pastTyped o at (Standing from own t) = (at ≤ from) × (from ≤ length o)
-pastTyped o at Untyped = Unit {0}
-
-pub record TypedAt (o : List ℕ) (form : Form) (at : ℕ) (r : Typed) : Type 0 where
-  pub past : pastTyped o at r
-  pub same : (h : Head) → Stands form h → Begins o at (identifier h) → r ≡ Standing (at + length (identifier h)) (h .own) (h .ty)
-
--- ---- an element type, where one stands
-
-abbrev pub pastElement : List ℕ → ℕ → Element → Type 0
-pastElement o at (Of next t) = (at ≤ next) × (next ≤ length o)
-pastElement o at (NoType r) = Unit {0}
-
-pub record ElementaryAt (o : List ℕ) (on : Bool) (at : ℕ) (r : Element) : Type 0 where
-  pub past : pastElement o at r
-  pub same : (t : ℤ) → Elements on t → Begins o at (spellElement on t) → r ≡ Of (at + length (spellElement on t)) t
 
 -- ---- the number
 

@@ -2,31 +2,27 @@
 use mathlib.Core.Path.{_≡_}
 use mathlib.Core.Bool.{Bool, true, false, cond}
 use mathlib.Core.List.{List}
-use Prim.Native.Nat.{ℕ, suc, _+_, _-_, _*_, _%_, _^_, _<_, _≤_}
+use Prim.Native.Nat.{ℕ, suc, _+_, _-_, _*_, _^_, _<_, _≤_}
 use lib.ListN.{length}
-use lib.Dec.{eqb}
 use lib.IntN.{ℤ, pos, negsuc}
 use lib.Signed.{mag}
 use Rattle.format.specs.declared.Row.{Row}
 use Rattle.format.specs.Types.{Holds, nothing, values, couples, indexes, properties, one, parts, Kind, kindOf}
 use Rattle.format.specs.Values.{Head, Children, empty, child, Value, label}
-use Rattle.format.specs.Spelling.{dataBy, fore, index, spellChildren}
+use Rattle.format.specs.Spelling.{dataBy, fore, spellChildren}
 use Rattle.format.specs.Grammar.{Good, Moment}
 use Rattle.format.specs.Rows.{hasContents, rowOf}
-use Rattle.decide.specs.declared.Inside.{Inside}
-use Rattle.decide.specs.declared.Inside.the-variants.{Pairs, Sparse, User, List as Several}
-use Rattle.fill.specs.declared.Form.{Form}
-use Rattle.fill.specs.declared.Form.the-variants.{Whole, Bare}
+use Rattle.decide.specs.declared.Form.{Form}
+use Rattle.decide.specs.declared.Form.the-variants.{Whole, Named, Bare}
+use Rattle.decide.specs.declared.Nest.{Nest}
+use Rattle.decide.specs.Forms.{formOf, nestWith}
 use Rattle.fill.specs.declared.Numbered.{Numbered}
 use Rattle.fill.specs.declared.Numbered.the-variants.{Number, Missing}
-use Rattle.fill.specs.declared.Nest.{Nest}
 use Rattle.fill.specs.declared.Fore.{Fore}
 use Rattle.fill.specs.declared.Data.{Data}
 use Rattle.fill.specs.declared.Data.the-variants.{Leaf, Holder, Unread}
 use Rattle.fill.specs.declared.Found.{Found}
 use Rattle.fill.specs.declared.Found.the-variants.{Leaf as LeafRow, Holder as HolderRow, Unread as NoRow}
-use Rattle.fill.specs.declared.Next.{Next}
-use Rattle.fill.specs.declared.Next.the-variants.{End, Value as Following, Unread as NoNext}
 use Rattle.fill.specs.Numbers.{Begins, Stands}
 
 -- ---- what a value holds
@@ -36,20 +32,13 @@ unfoldable pub several : Children → ℕ
 several empty = 0
 several (child i h cs next) = suc (several next)
 
-abbrev pub formOf : Bool → ℤ → Form
-formOf true t = Bare t
-formOf false t = Whole
-
-abbrev pub nestWith : Bool → Bool → Form → Form → ℕ → Nest
-nestWith x p f g n = record { indexed = x; paired = p; form = f; other = g; count = n }
-
 abbrev pub nestBy : Kind → Holds → Head → Children → Nest
 nestBy k nothing h cs = nestWith false false Whole Whole 0
 nestBy k values h cs = nestWith false false (formOf (k .first) (h .first)) (formOf (k .first) (h .first)) (mag (h .number))
 nestBy k couples h cs = nestWith false true (formOf (k .first) (h .first)) (formOf (k .second) (h .second)) (2 * mag (h .number))
-nestBy k indexes h cs = nestWith true false (formOf (k .first) (h .first)) (formOf (k .first) (h .first)) 0
-nestBy k properties h cs = nestWith true false Whole Whole 0
-nestBy k one h cs = nestWith false false Whole Whole 1
+nestBy k indexes h cs = nestWith true false (formOf (k .first) (h .first)) (formOf (k .first) (h .first)) (mag (h .number))
+nestBy k properties h cs = nestWith true false Whole Whole (2 ^ 31)
+nestBy k one h cs = nestWith false false Named Named 1
 nestBy k (parts d) h cs = nestWith false false (Bare (negsuc 1)) (Bare (negsuc 1)) (several cs)
 
 unfoldable pub nestOf : Head → Children → Nest
@@ -64,13 +53,6 @@ Dated indexes cs = Unit {0}
 Dated properties cs = Unit {0}
 Dated one cs = Unit {0}
 Dated (parts d) cs = Moment d cs
-
--- what a container of a shape holds, by its element types and its number
-abbrev pub nestIn : Inside → Bool → Bool → ℤ → ℤ → ℕ → Nest
-nestIn Several a b e f n = nestWith false false (formOf a e) (formOf a e) n
-nestIn Pairs a b e f n = nestWith false true (formOf a e) (formOf b f) (2 * n)
-nestIn Sparse a b e f n = nestWith true false (formOf a e) (formOf a e) 0
-nestIn User a b e f n = nestWith true false Whole Whole 0
 
 -- ---- the data of a value
 
@@ -143,29 +125,11 @@ pub record RowAt (o : List ℕ) (form : Form) (i at : ℕ) (r : Found) : Type 0 
 
 -- ---- the next value of a container
 
--- the form of the value at position i
-abbrev pub turn : Form → Form → ℕ → Form
-turn f g i = cond (eqb (i % 2) 0) f g
-
--- after i values, a value with label j may follow; or none
+-- from position or index `low` on, a value with label j may follow; or none
 abbrev pub Follows : Bool → Bool → ℕ → ℕ → ℕ → Type 0
-Follows true paired count i j = j < 2 ^ 31
-Follows false paired count i j = (i < count) × (j ≡ label paired i)
+Follows true paired count low j = (low ≤ j) × (j < count) × (j < 2 ^ 31)
+Follows false paired count low j = (low < count) × (j ≡ label paired low)
 
 abbrev pub Ended : Bool → ℕ → ℕ → Type 0
-Ended true count i = Unit {0}
-Ended false count i = i ≡ count
-
-abbrev pub Further : Bool → ℕ → ℕ → ℕ → ℕ → Type 0
-Further true count i at next = at < next
-Further false count i at next = i < count
-
-abbrev pub pastNext : List ℕ → Bool → ℕ → ℕ → ℕ → Next → Type 0
-pastNext o x count i at (Following next j) = (at ≤ next) × (next ≤ length o) × Further x count i at next
-pastNext o x count i at (End next) = (at ≤ next) × (next ≤ length o)
-pastNext o x count i at NoNext = Unit {0}
-
-pub record NextAt (o : List ℕ) (x paired : Bool) (count i at : ℕ) (r : Next) : Type 0 where
-  pub past : pastNext o x count i at r
-  pub follows : (j : ℕ) → Follows x paired count i j → Begins o at (index x (pos j)) → r ≡ Following (at + length (index x (pos j))) j
-  pub ends : Ended x count i → Begins o at (index x (negsuc 0)) → r ≡ End (at + length (index x (negsuc 0)))
+Ended true count low = Unit {0}
+Ended false count low = low ≡ count

@@ -1,27 +1,27 @@
 ghost use mathlib.Core.Path.{_≡_};
-ghost use mathlib.Core.Bool.{Bool, true, false};
-ghost use Prim.Native.Nat.{ℕ, _+_, _^_, _≤_, _<_};
+ghost use mathlib.Core.Bool.{Bool, false};
+ghost use Prim.Native.Nat.{_^_, _≤_, _<_};
 ghost use lib.ListN.{length};
 ghost use lib.IntN.{pos};
 ghost use Rattle.format.specs.Types.{packed, fixed, code, amount, one, silent, gives, string, dated, container};
-ghost use Rattle.format.specs.Values.{label};
 ghost use Rattle.scalar.specs.declared.Bits.{Bits};
 ghost use Rattle.scalar.specs.Answers.{Size, widthOf};
 ghost use Rattle.scalar.specs.Moments.{partsOf};
 ghost use Rattle.decide.specs.Classes.{holdsOf, textOf};
 ghost use Rattle.fill.specs.Columns.{columns, Roomy, Stored};
-ghost use Rattle.fill.specs.Numbers.{TypedAt, ElementaryAt, NumberAt, Implied};
-ghost use Rattle.fill.specs.Rows.{formOf, nestWith, nestIn, foreWith, leafOf, DataAt, DataOf, rowWith, RowAt, NextAt, turn};
+ghost use Rattle.fill.specs.Numbers.{NumberAt, Implied};
+ghost use Rattle.fill.specs.Rows.{foreWith, leafOf, DataAt, DataOf, rowWith, RowAt};
 ghost use Rattle.fill.specs.Filling.{closed, Ready, FilledValue, FilledElements, FilledIn};
 use decide::Amount;
 use decide::Class;
 use decide::Element;
-use decide::Inside;
+use decide::Form;
+use decide::Nest;
+use decide::Next;
 use decide::Shape;
+use decide::Typed;
 use format::Row;
-use integer::Read32;
 use integer::Read64;
-use integer::Signed;
 use scalar::Coded;
 use scalar::Moment;
 use scalar::Which;
@@ -63,44 +63,7 @@ fn put_row(
     }
 }
 
-// ---- The type and the number of a value ----
-
-// How a value inside a container stands: with its identifier, or bare, of a type.
-pub enum Form {
-    Whole,
-    Bare(i32),
-}
-
-// The place of a value's data, 1 if its identifier stands before them, and its type.
-pub enum Typed {
-    Standing(usize, u8, i32),
-    Untyped,
-}
-
-// The type of the value at a place.
-fn typed_at(src: &[u8], form: Form, at: usize) -> Typed
-    requires { ⌜ at ≤ length (now src) ⌝ }
-    ensures { λ r. ⌜ TypedAt (now (src .entry)) form at r ⌝ }
-{
-    match form {
-        Form::Whole => match integer::int32_at(src, at) {
-            Read32::Int32(from, ty) => Typed::Standing(from, 1, ty),
-            Read32::Refused32(_) => Typed::Untyped,
-        },
-        Form::Bare(ty) => Typed::Standing(at, 0, ty),
-    }
-}
-
-// The element type at a place, if one stands there; else the same place and 0.
-fn element_at(src: &[u8], on: bool, at: usize) -> Element
-    requires { ⌜ at ≤ length (now src) ⌝ }
-    ensures { λ r. ⌜ ElementaryAt (now (src .entry)) on at r ⌝ }
-{
-    if on {
-        return decide::element_at(src, at);
-    }
-    Element::Of(at, 0)
-}
+// ---- The number of a value ----
 
 // The place past a value's number, and the number.
 pub enum Numbered {
@@ -160,72 +123,6 @@ fn implied_number(ty: i32) -> i64
         return 1;
     }
     0
-}
-
-// ---- The values inside a value ----
-
-// What a container holds: pairs of index and value, or counted values, of a map two by two; the forms by turns; and how many.
-pub struct Nest {
-    pub indexed: bool,
-    pub paired: bool,
-    pub form: Form,
-    pub other: Form,
-    pub count: usize,
-}
-
-fn form_of(on: bool, ty: i32) -> Form
-    ensures { λ r. ⌜ r ≡ formOf on ty ⌝ }
-{
-    if on {
-        return Form::Bare(ty);
-    }
-    Form::Whole
-}
-
-fn counted(form: Form, count: usize) -> Nest
-    ensures { λ r. ⌜ r ≡ nestWith false false form form count ⌝ }
-{
-    Nest {
-        indexed: false,
-        paired: false,
-        form,
-        other: form,
-        count,
-    }
-}
-
-fn keyed(form: Form) -> Nest
-    ensures { λ r. ⌜ r ≡ nestWith true false form form 0 ⌝ }
-{
-    Nest {
-        indexed: true,
-        paired: false,
-        form,
-        other: form,
-        count: 0,
-    }
-}
-
-// What a container of a shape holds, by its element types and its number.
-fn nest_of(shape: Shape, first: i32, second: i32, n: u32) -> Nest
-    requires { ⌜ n < 2 ^ 31 ⌝ }
-    ensures { λ r. ⌜ r ≡ nestIn (shape .inside) (shape .first) (shape .second) first second n ⌝ }
-{
-    let inside = shape.inside;
-    let form = form_of(shape.first, first);
-    let other = form_of(shape.second, second);
-    match inside {
-        Inside::List => counted(form, n as usize),
-        Inside::Pairs => Nest {
-            indexed: false,
-            paired: true,
-            form,
-            other,
-            count: 2 * n as usize,
-        },
-        Inside::Sparse => keyed(form),
-        Inside::User => keyed(Form::Whole),
-    }
 }
 
 // ---- The data of a value ----
@@ -297,10 +194,10 @@ fn moment_data(src: &[u8], at: usize, which: Which) -> Data
     ensures { λ r. ⌜ DataAt (now (src .entry)) (dated (partsOf which)) at r ⌝ }
 {
     match which {
-        Which::Date => Data::Holder(plain(0, at), counted(Form::Bare(-2), 3)),
+        Which::Date => Data::Holder(plain(0, at), decide::alike(Form::Bare(-2), 3, false)),
         _ => match scalar::moment_past(src, at, which) {
             Moment::Unfit(_) => Data::Unread,
-            Moment::Parts(_, n) => Data::Holder(plain(0, at), counted(Form::Bare(-2), n)),
+            Moment::Parts(_, n) => Data::Holder(plain(0, at), decide::alike(Form::Bare(-2), n, false)),
         },
     }
 }
@@ -312,7 +209,10 @@ fn identity_data(src: &[u8], at: usize) -> Data
 {
     match decide::amount_at(src, at) {
         Amount::NoNumber(_) => Data::Unread,
-        Amount::Number(next, n) => Data::Holder(plain(n as i64, next), counted(Form::Whole, 1)),
+        Amount::Number(next, n) => Data::Holder(
+            plain(n as i64, next),
+            decide::alike(Form::Named, 1, false),
+        ),
     }
 }
 
@@ -321,9 +221,9 @@ fn holder_data(src: &[u8], shape: Shape, at: usize) -> Data
     requires { ⌜ at ≤ length (now src) ⌝ }
     ensures { λ r. ⌜ DataAt (now (src .entry)) (container (shape .first) (shape .second) (holdsOf (shape .inside)) silent) at r ⌝ }
 {
-    match element_at(src, shape.first, at) {
+    match decide::type_at(src, shape.first, at) {
         Element::NoType(_) => Data::Unread,
-        Element::Of(at2, first) => match element_at(src, shape.second, at2) {
+        Element::Of(at2, first) => match decide::type_at(src, shape.second, at2) {
             Element::NoType(_) => Data::Unread,
             Element::Of(at3, second) => match decide::amount_at(src, at3) {
                 Amount::NoNumber(_) => Data::Unread,
@@ -335,7 +235,7 @@ fn holder_data(src: &[u8], shape: Shape, at: usize) -> Data
                         place: 0,
                         end: next,
                     },
-                    nest_of(shape, first, second, n),
+                    decide::nest_of(shape, first, second, n),
                 ),
             },
         },
@@ -395,67 +295,14 @@ fn row_at(src: &[u8], form: Form, label: u32, at: usize) -> Found
     requires { ⌜ (at ≤ length (now src)) × (length (now src) < 2 ^ 32) ⌝ }
     ensures { λ r. ⌜ RowAt (now (src .entry)) form label at r ⌝ }
 {
-    match typed_at(src, form, at) {
-        Typed::Untyped => Found::Unread,
+    match decide::typed_at(src, form, at) {
+        Typed::Untyped(_) => Found::Unread,
         Typed::Standing(from, own, ty) => match data_at(src, ty, from) {
             Data::Unread => Found::Unread,
             Data::Leaf(f) => Found::Leaf(front_row(ty, own, label, f, at)),
             Data::Holder(f, nest) => Found::Holder(front_row(ty, own, label, f, at), nest),
         },
     }
-}
-
-// ---- The next value of a container ----
-
-// A value at a place, with its label; or the end, and the place past it.
-pub enum Next {
-    Value(usize, u32),
-    End(usize),
-    Unread,
-}
-
-fn index_next(src: &[u8], at: usize) -> Next
-    ensures { λ r. ⌜ ((paired : Bool) (count i : ℕ) → NextAt (now (src .entry)) true paired count i at r) ⌝ }
-{
-    match integer::signed_at(src, at) {
-        Signed::Faulty(_) => Next::Unread,
-        Signed::Negative(next, _) => Next::End(next),
-        Signed::Positive(next, j) => Next::Value(next, j),
-    }
-}
-
-fn label_of(paired: bool, i: usize) -> u32
-    requires { ⌜ i < 2 ^ 32 ⌝ }
-    ensures { λ r. ⌜ r ≡ label paired i ⌝ }
-{
-    if paired {
-        return (i / 2) as u32;
-    }
-    i as u32
-}
-
-// What follows i values.
-fn next_at(src: &[u8], indexed: bool, paired: bool, count: usize, i: usize, at: usize) -> Next
-    requires { ⌜ (at ≤ length (now src)) × (count < 2 ^ 32) ⌝ }
-    ensures { λ r. ⌜ NextAt (now (src .entry)) indexed paired count i at r ⌝ }
-{
-    if indexed {
-        return index_next(src, at);
-    }
-    if count <= i {
-        return Next::End(at);
-    }
-    Next::Value(at, label_of(paired, i))
-}
-
-// The form of the value after i others.
-fn turn_of(form: Form, other: Form, i: usize) -> Form
-    ensures { λ r. ⌜ r ≡ turn form other i ⌝ }
-{
-    if i % 2 == 0 {
-        return form;
-    }
-    other
 }
 
 // ---- Filling ----
@@ -589,11 +436,11 @@ fn fill_elements(
     let count = nest.count;
     let from = row.end;
     let mut at = from as usize;
-    let mut i: usize = 0;
+    let mut low: u32 = 0;
     let mut rows = base;
     loop {
-        match next_at(src, indexed, paired, count, i, at) {
-            Next::Unread => return Step::Unread,
+        match decide::next_at(src, indexed, paired, count, low, at) {
+            Next::Halt(_) => return Step::Unread,
             Next::End(next) => {
                 put_row(
                     ty,
@@ -625,7 +472,7 @@ fn fill_elements(
                 start,
                 end,
                 lim,
-                turn_of(form, other, i),
+                decide::turn_of(form, other, low),
                 name,
                 next,
                 rows,
@@ -635,7 +482,7 @@ fn fill_elements(
                 Step::On(at2, rows2) => {
                     at = at2;
                     rows = rows2;
-                    i += 1;
+                    low = decide::low_after(indexed, name, low);
                 }
             },
         }
@@ -687,7 +534,7 @@ pub fn fill(
         end,
         lim,
         row,
-        counted(Form::Whole, 1),
+        decide::alike(Form::Whole, 1, false),
         lim,
         0,
         17,
