@@ -1,6 +1,7 @@
 ghost use mathlib.Core.Path.{_≡_};
 ghost use Prim.Native.Nat.{_^_, _<_, _≤_};
 ghost use lib.ListN.{length};
+ghost use Rattle.reading.specs.Reading.{refusal};
 ghost use Rattle.format.specs.Values.{label};
 ghost use Rattle.decide.specs.Classes.{bitsOf, ClassOf, isSturdy};
 ghost use Rattle.decide.specs.Elements.{AmountAt, ElementAt, TypeAt};
@@ -117,16 +118,23 @@ pub enum Amount {
     NoNumber(Refusal),
 }
 
+// The refusal of a number at a place that is negative, or an index out of its bounds.
+fn out_of_bounds(at: usize) -> Refusal
+    ensures { λ r. ⌜ r ≡ refusal 5 at ⌝ }
+{
+    Refusal {
+        place: at,
+        number: 5,
+    }
+}
+
 // The size, length, version, identity or reference number at a place.
 pub fn amount_at(src: &[u8], at: usize) -> Amount
     ensures { λ r. ⌜ AmountAt (now (src .entry)) at r ⌝ }
 {
     match integer::signed_at(src, at) {
         Signed::Positive(next, n) => Amount::Number(next, n),
-        Signed::Negative(_, _) => Amount::NoNumber(Refusal {
-            place: at,
-            number: 5,
-        }),
+        Signed::Negative(_, _) => Amount::NoNumber(out_of_bounds(at)),
         Signed::Faulty(r) => Amount::NoNumber(r),
     }
 }
@@ -273,23 +281,14 @@ fn index_next(src: &[u8], top: usize, low: u32, at: usize) -> Next
             if n == 0 {
                 return Next::End(next);
             }
-            Next::Halt(Refusal {
-                place: at,
-                number: 5,
-            })
+            Next::Halt(out_of_bounds(at))
         }
         Signed::Positive(next, j) => {
             if j < low {
-                return Next::Halt(Refusal {
-                    place: at,
-                    number: 5,
-                });
+                return Next::Halt(out_of_bounds(at));
             }
             if top <= (j as usize) {
-                return Next::Halt(Refusal {
-                    place: at,
-                    number: 5,
-                });
+                return Next::Halt(out_of_bounds(at));
             }
             Next::Value(next, j)
         }

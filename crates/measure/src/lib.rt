@@ -228,14 +228,10 @@ fn plan_at(src: &[u8], ids: &[u32], form: Form, at: usize) -> Plan
 {
     match decide::typed_at(src, form, at) {
         Typed::Untyped(r) => Plan::Refuse(r),
-        Typed::Standing(from, _, t) => data_plan(
-            src,
-            ids,
-            decide::class_of(t),
-            once_of(form),
-            from,
-            at,
-        ),
+        Typed::Standing(from, _, t) => {
+            let class = decide::class_of(t);
+            data_plan(src, ids, class, once_of(form), from, at)
+        }
     }
 }
 

@@ -23,15 +23,15 @@ enum-known-r c = search needs
 enum-known-from : tie.Need-enum-known-from
 enum-known-from c = search needs
 
--- src/lib.rt:234:13
+-- src/lib.rt:232:17
 class-of-requires : tie.Need-class-of-requires
 class-of-requires c κs = search needs
 
--- src/lib.rt:235:13
+-- src/lib.rt:233:40
 once-of-requires : tie.Need-once-of-requires
 once-of-requires c κs = search needs
 
--- src/lib.rt:231:40
+-- src/lib.rt:233:13
 data-plan-requires : tie.Need-data-plan-requires
 data-plan-requires c κs = (subst (pastTyped _ _) (c .before .before .before .from .given .1) (c .before .before .before .before .before .typed-at .ensures .past) .1, c .before .before .before .before .before .before .before .before .pre .1)
 
