@@ -20,7 +20,7 @@ use Rattle.format.specs.Data.{number, element}
 use Rattle.decide.specs.declared.Class.{Class}
 use Rattle.decide.specs.declared.Amount.the-variants.{Number, NoNumber}
 use Rattle.decide.specs.declared.Element.the-variants.{Of, NoType}
-use Rattle.decide.specs.Classes.{isSturdy, elementary, ClassOf}
+use Rattle.decide.specs.Classes.{mayBeElement, elementary, ClassOf}
 use Rattle.decide.proofs.Table.{clash}
 use Rattle.decide.specs.Elements.{AmountAt, ElementAt}
 
@@ -75,13 +75,13 @@ module _ {o : List ℕ} {at : ℕ} {x : Read32} (reads : Reads32 o at x) where
   type-faulty h = record { is = λ e. by-type e ∙ rw h }
 
   module _ {next : ℕ} {z : ℤ} {c : Class} (h : x ≡ Int32 next z) (f : mag z < 2 ^ 31) (k : ClassOf (toZ w32 (ofZ w32 z)) c) where
-    sturdy-as : isSturdy c ≡ elementary z
-    sturdy-as = k .sturdy ∙ ap elementary (held (record { sfits = f }))
+    element-as : mayBeElement c ≡ elementary z
+    element-as = k .element ∙ ap elementary (held (record { sfits = f }))
 
-    pub type-some : isSturdy c ≡ true → ElementAt o at (Of next (toZ w32 (ofZ w32 z)))
+    pub type-some : mayBeElement c ≡ true → ElementAt o at (Of next (toZ w32 (ofZ w32 z)))
     type-some s =
-        let q = subst (past32 o at) h (reads .past) in let m : elementary z ≡ true = sym sturdy-as ∙ s in
+        let q = subst (past32 o at) h (reads .past) in let m : elementary z ≡ true = sym element-as ∙ s in
         rw (held {w = w32} {z = z} (record { sfits = f })) record { is = (m, q .0, q .1, λ e. by-type e ∙ rw h (passes at z (stand o next e) m)) }
 
-    pub type-none : isSturdy c ≡ false → ElementAt o at (NoType (refusal 4 at))
-    type-none s = record { is = λ e. by-type e ∙ rw h (fails at z (stand o next e) (sym sturdy-as ∙ s)) }
+    pub type-none : mayBeElement c ≡ false → ElementAt o at (NoType (refusal 4 at))
+    type-none s = record { is = λ e. by-type e ∙ rw h (fails at z (stand o next e) (sym element-as ∙ s)) }

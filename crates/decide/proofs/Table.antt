@@ -17,7 +17,7 @@ use Rattle.scalar.specs.declared.Bits.the-variants.{Bits32}
 use Rattle.decide.specs.declared.Class.{Class}
 use Rattle.decide.specs.declared.Class.the-variants.{Refused, Small, Int, Holder}
 use Rattle.decide.specs.declared.Inside.the-variants.{User}
-use Rattle.decide.specs.Classes.{Is, isSturdy, leastOf, elementary, ClassOf, bitsOf}
+use Rattle.decide.specs.Classes.{Is, mayBeElement, leastOf, elementary, ClassOf, bitsOf}
 use Rattle.decide.proofs.Keys.{any, below, below-at, Missed, missed}
 
 pub clash : {A : Type 0} {t : Bool} → t ≡ true → t ≡ false → A
@@ -39,11 +39,11 @@ module _ {t : ℤ} (f : SFits w32 t) where
   is-either (inr e) h g = is-at e g
 
 -- a class of element types, and another
-pub as-element : {t : ℤ} {r : Class} → Is r t → isSturdy r ≡ elementary t → 0 < leastOf r → ClassOf t r
-as-element i s l = record { is = i; sturdy = s; least = λ _. l }
+pub as-element : {t : ℤ} {r : Class} → Is r t → mayBeElement r ≡ elementary t → 0 < leastOf r → ClassOf t r
+as-element i s l = record { is = i; element = s; least = λ _. l }
 
-pub no-element : {t : ℤ} {r : Class} → Is r t → isSturdy r ≡ false → false ≡ elementary t → ClassOf t r
-no-element i n s = record { is = i; sturdy = n ∙ s; least = λ e. clash e n }
+pub no-element : {t : ℤ} {r : Class} → Is r t → mayBeElement r ≡ false → false ≡ elementary t → ClassOf t r
+no-element i n s = record { is = i; element = n ∙ s; least = λ e. clash e n }
 
 refused : {t : ℤ} → kindOf t .carried ≡ false → ClassOf t Refused
 refused e = no-element e refl (rw e)

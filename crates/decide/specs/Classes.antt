@@ -38,17 +38,17 @@ Is Identity t = kindOf t ≡ container false false one gives
 Is Reference t = kindOf t ≡ container false false nothing refers
 
 -- a class that an element type may have: its data take an octet at least
-abbrev pub isSturdy : Class → Bool
-isSturdy Refused = false
-isSturdy Small = false
-isSturdy (Int b) = true
-isSturdy (Fixed k) = true
-isSturdy Char = true
-isSturdy (Parted d) = true
-isSturdy (Texted chars) = true
-isSturdy (Holder h) = true
-isSturdy Identity = false
-isSturdy Reference = false
+abbrev pub mayBeElement : Class → Bool
+mayBeElement Refused = false
+mayBeElement Small = false
+mayBeElement (Int b) = true
+mayBeElement (Fixed k) = true
+mayBeElement Char = true
+mayBeElement (Parted d) = true
+mayBeElement (Texted chars) = true
+mayBeElement (Holder h) = true
+mayBeElement Identity = false
+mayBeElement Reference = false
 
 -- how many octets the data take at least
 abbrev pub leastOf : Class → ℕ
@@ -70,8 +70,8 @@ elementary t = kindOf t .carried && ltZ (negsuc 30) t
 -- the class of a type
 pub record ClassOf (t : ℤ) (r : Class) : Type 0 where
   pub is : Is r t
-  pub sturdy : isSturdy r ≡ elementary t
-  pub least : isSturdy r ≡ true → 0 < leastOf r
+  pub element : mayBeElement r ≡ elementary t
+  pub least : mayBeElement r ≡ true → 0 < leastOf r
 
 -- the bits of a packed integer type: -1 has 16, -3 has 64, -2 and -11 have 32
 abbrev pub bitsOf : ℤ → Bits

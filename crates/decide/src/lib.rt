@@ -3,7 +3,7 @@ ghost use Prim.Native.Nat.{_^_, _<_, _≤_};
 ghost use lib.ListN.{length};
 ghost use Rattle.reading.specs.Reading.{refusal};
 ghost use Rattle.format.specs.Values.{label};
-ghost use Rattle.decide.specs.Classes.{bitsOf, ClassOf, isSturdy};
+ghost use Rattle.decide.specs.Classes.{bitsOf, ClassOf, mayBeElement};
 ghost use Rattle.decide.specs.Elements.{AmountAt, ElementAt, TypeAt};
 ghost use Rattle.decide.specs.Forms.{IdentifierAt, TypedAt, formOf, alikeNest, nestIn, turn};
 ghost use Rattle.decide.specs.Gates.{IndexNext, NextAt, nextLow};
@@ -95,8 +95,8 @@ pub fn class_of(t: i32) -> Class
 }
 
 // Whether a type of the class may be an element type.
-fn sturdy(c: Class) -> bool
-    ensures { λ r. ⌜ r ≡ isSturdy c ⌝ }
+fn may_be_element(c: Class) -> bool
+    ensures { λ r. ⌜ r ≡ mayBeElement c ⌝ }
 {
     match c {
         Class::Refused => false,
@@ -151,7 +151,7 @@ pub fn element_at(src: &[u8], at: usize) -> Element
 {
     match integer::int32_at(src, at) {
         Read32::Int32(next, t) => {
-            if sturdy(class_of(t)) {
+            if may_be_element(class_of(t)) {
                 return Element::Of(next, t);
             }
             Element::NoType(Refusal {

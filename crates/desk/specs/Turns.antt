@@ -1,12 +1,12 @@
 -- What a turn leaves.
 use Prim.Native.Nat.{ℕ, _≤_, _<_}
-use Rattle.desk.specs.declared.Went.{Went}
-use Rattle.desk.specs.declared.Went.the-variants.{Used, Failed}
+use Rattle.desk.specs.declared.Listed.{Listed}
+use Rattle.desk.specs.declared.Listed.the-variants.{Used, Failed}
 use Rattle.desk.specs.declared.Turn.{Turn}
 use Rattle.desk.specs.declared.Turn.the-variants.{Held, Ended}
 
 -- what is listed was given
-abbrev pub Within : ℕ → Went → Type 0
+abbrev pub Within : ℕ → Listed → Type 0
 Within n (Used k) = k ≤ n
 Within n Failed = Unit {0}
 

@@ -5,13 +5,13 @@ ghost use Rattle.desk.specs.Turns.{Within, Going};
 use reading::Refusal;
 
 // How many octets are listed, or that a write failed.
-enum Went {
+enum Listed {
     Used(usize),
     Failed,
 }
 
 // Lists the whole lines among the octets, a run of them at a time.
-fn list_all(src: &[u8], out: &mut [u8]) -> Went
+fn list_all(src: &[u8], out: &mut [u8]) -> Listed
     ensures { λ r. ⌜ Within (length (now (src .entry))) r ⌝ }
 {
     let mut at = 0;
@@ -23,11 +23,11 @@ fn list_all(src: &[u8], out: &mut [u8]) -> Went
             break;
         }
         if !io::write_all(libc::STDOUT_FILENO, &out[..written]) {
-            return Went::Failed;
+            return Listed::Failed;
         }
         at += used;
     }
-    Went::Used(at)
+    Listed::Used(at)
 }
 
 // A last line without a line feed is 17.
@@ -65,8 +65,8 @@ fn take_turn(src: &mut [u8], out: &mut [u8], held: usize) -> Turn
     }
     let end = held + came;
     match list_all(&src[..end], out) {
-        Went::Failed => Turn::Ended,
-        Went::Used(used) => {
+        Listed::Failed => Turn::Ended,
+        Listed::Used(used) => {
             let rest = input::keep(src, used, end);
             Turn::Held(input::shorten(src, rest))
         }

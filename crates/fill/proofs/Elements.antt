@@ -23,7 +23,7 @@ use Rattle.fill.specs.declared.Step.the-variants.{On, Unread}
 use Rattle.fill.specs.Columns.{Kept, Stored, putRow, puts}
 use Rattle.fill.specs.Numbers.{Begins}
 use Rattle.fill.specs.Rows.{nestOf}
-use Rattle.fill.specs.Filling.{Fillable, Within, Fit, closed, Ready, Forth, FilledValue, FilledElements}
+use Rattle.fill.specs.Filling.{Fillable, Within, Fit, closed, Ready, Advanced, FilledValue, FilledElements}
 use Rattle.fill.proofs.Begins.{begins-left, begins-right, moved}
 use Rattle.fill.proofs.Following.{follows, ended}
 use Rattle.fill.proofs.Columns.{kept-same, kept-trans, puts-append}
@@ -165,7 +165,7 @@ module _ {o : List ℕ} {lim d : ℕ} {n : Nest} {from base : ℕ} {t₀ : Table
 
     pub turn-again : {at₂ rows₂ low' : ℕ} → r ≡ On at₂ rows₂ → low' ≡ nextLow (n .indexed) j low → Kept t' t → Turn o lim d n from base t₀ at₂ low' rows₂ t'
     turn-again {at₂} {rows₂} z w ks =
-        let v = subst (Forth o lim next (suc rows)) z (filled .forth) in
+        let v = subst (Advanced o lim next (suc rows)) z (filled .advanced) in
         rw w record {
           inside = v .1;
           past = omega (arith, tn .past, past .0, v .0);
@@ -188,13 +188,13 @@ module _ {o : List ℕ} {lim d : ℕ} {n : Nest} {from base : ℕ} {t₀ : Table
 
     pub elements-stop : {row : Row} {k : ℕ} → from ≡ row .end → r ≡ Unread → FilledElements o lim row n k base d t₀ Unread t'
     elements-stop e z = record {
-      forth = tt;
+      advanced = tt;
       same = λ cs f b l. let lf = tn .rest cs f (moved e b) l in absurd (stop-on z d refl (lf .left) (lf .fits) (lf .begun) (omega (arith, lf .rows-same)));
     }
 
   pub elements-unread : {y : Refusal} {row : Row} {k : ℕ} → from ≡ row .end → g ≡ Halt y → FilledElements o lim row n k base d t₀ Unread t
   elements-unread e z = record {
-    forth = tt;
+    advanced = tt;
     same = λ cs f b l. let lf = tn .rest cs f (moved e b) l in absurd (no-next (sym z) (n .indexed) at (lf .left) (next-is d (lf .left) (lf .fits) (lf .begun)));
   }
 
@@ -202,7 +202,7 @@ module _ {o : List ℕ} {lim d : ℕ} {n : Nest} {from base : ℕ} {t₀ : Table
   elements-end {row} {k} {next} {t'} e z st =
       let p = subst (pastNext o (n .indexed) (n .count) low at) z (follow .past) in
       record {
-        forth = (omega (arith, tn .past, p .0, e), p .1, omega (arith, tn .steps), tn .room);
+        advanced = (omega (arith, tn .past, p .0, e), p .1, omega (arith, tn .steps), tn .room);
         same = λ cs f b l.
             let lf = tn .rest cs f (moved e b) l in
             let w = ends z cs (lf .left) (lf .fits) (lf .begun) (lf .rows-same) (lf .place-same) (lf .table-same) in

@@ -19,10 +19,10 @@ use Rattle.reading.specs.declared.Refusal.{Refusal}
 use Rattle.reading.specs.Reading.{Out, got, stand, follow, _>>=_, return}
 use Rattle.reading.proofs.Sound.{never}
 use Rattle.reading.proofs.Does.{Does}
-use Rattle.integer.specs.Packed.{wide32, wide64}
+use Rattle.integer.specs.Packed.{wide32, wide64, spellInt}
 use Rattle.integer.specs.declared.Read64.{Read64}
 use Rattle.integer.specs.declared.Read64.the-variants.{Int64, Refused64}
-use Rattle.integer.specs.Answers.{out64, past64, Reads64}
+use Rattle.integer.specs.Answers.{out64, past64, Knows64}
 use Rattle.integer.proofs.Laws.{integer-does, enough32, enough64}
 use Rattle.integer.proofs.Signs.{held}
 use Rattle.format.specs.Types.{Datum, packed, fixed, code, amount, implied, Sort, integral, Kind, scalar, uncarried, table, kindOf}
@@ -106,24 +106,23 @@ narrow Bits16 z h = omega arith
 narrow Bits32 z h = omega arith
 narrow Bits64 z h = h
 
-module _ {o : List ℕ} {at : ℕ} {x : Read64} (reads : Reads64 o at x) where
+module _ {o : List ℕ} {at : ℕ} {x : Read64} (known : Knows64 o at x) where
+  -- what is found, where the octets begin with an integer
+  int-is : (w : Bits) (y : ℤ) → mag y < widthOf w .bound → (b : Begins o at (spellInt y)) → out64 o unnamed x ≡ got y (record { at = at + length (spellInt y); left = b .after; env = unnamed })
+  int-is w y g b = known .same unnamed y _ (read-is (integer-does wide64 enough64 y unnamed (narrow w y g)) b)
+
   pub int-found : {next : ℕ} {z : ℤ} → x ≡ Int64 next z → mag z < 2 ^ 63 → (w : Bits) → NumberAt o (packed (widthOf w)) at (Number next (toZ w64 (ofZ w64 z)))
-  unfolding spellNumber
+  unfolding spellNumber stand
   int-found {next} {z} q f w =
-      let p = subst (past64 o at) q (reads .past) in
+      let p = subst (past64 o at) q (known .past) in
       rw (held {w = w64} {z = z} (record { sfits = f })) record {
         past = (omega arith, p .1);
-        same = λ y g b.
-            let v = found (integer-does wide64 enough64 y unnamed (narrow w y g)) b (ap (out64 o unnamed) (sym q) ∙ reads .same unnamed) in
-            rw (← v .1, ← v .0);
+        same = λ y g b. let v = ap (out64 o unnamed) (sym q) ∙ int-is w y g b in rw (← same-place v, ← same-value v);
       }
 
   pub int-missing : {y : Refusal} → x ≡ Refused64 y → (w : Bits) → NumberAt o (packed (widthOf w)) at Missing
   unfolding spellNumber
-  int-missing q w = record {
-    past = tt;
-    same = λ y g b. absurd (not-refused (integer-does wide64 enough64 y unnamed (narrow w y g)) b (ap (out64 o unnamed) (sym q) ∙ reads .same unnamed));
-  }
+  int-missing q w = record { past = tt; same = λ y g b. absurd (never (ap (out64 o unnamed) (sym q) ∙ int-is w y g b)) }
 
 module _ {o : List ℕ} {at : ℕ} {x : Amount} (amounts : AmountAt o at x) where
   pub amount-found : {next n : ℕ} → x ≡ Amounts next n → NumberAt o amount at (Number next (pos n))

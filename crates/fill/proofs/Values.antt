@@ -24,7 +24,7 @@ use Rattle.fill.specs.Columns.{Stored, putRow, puts}
 use Rattle.fill.specs.Numbers.{Begins}
 use Rattle.decide.specs.Forms.{nestWith}
 use Rattle.fill.specs.Rows.{nestBy, nestOf, foundBy, frontRow, pastFound, RowAt}
-use Rattle.fill.specs.Filling.{Fillable, Within, Fit, closed, Forth, FilledValue, FilledElements}
+use Rattle.fill.specs.Filling.{Fillable, Within, Fit, closed, Advanced, FilledValue, FilledElements}
 use Rattle.fill.proofs.Begins.{begins-left, begins-right, moved}
 
 -- ---- rows and spelling, by what the code keeps of a container
@@ -130,11 +130,11 @@ module _ {o : List ℕ} {form : Form} {i at : ℕ} {x : Found} (row-at : RowAt o
 
   module _ {lim k d : ℕ} {t : Table} where
     pub value-unread : x ≡ NoRow → FilledValue o lim form i at k d t Unread t
-    value-unread q = record { forth = tt; same = λ h cs f b r. absurd (never-unread (kindOf (h .ty) .holds) (nestOf h cs) (frontRow i h at) (sym (accepted h cs f b) ∙ q)) }
+    value-unread q = record { advanced = tt; same = λ h cs f b r. absurd (never-unread (kindOf (h .ty) .holds) (nestOf h cs) (frontRow i h at) (sym (accepted h cs f b) ∙ q)) }
 
     pub value-leaf : {row : Row} {t' : Table} → x ≡ Leaf row → k < lim → Stored lim k row t t' → FilledValue o lim form i at k d t (On (row .end) (k + 1)) t'
     value-leaf {row} {t'} q l st = let p = subst (pastFound o at) q (row-at .past) in record {
-      forth = (p .0, p .1, omega arith, omega arith);
+      advanced = (p .0, p .1, omega arith, omega arith);
       same = λ h cs f b r.
           let w = leaf-is (kindOf (h .ty) .holds) (nestOf h cs) (sym (accepted h cs f b) ∙ q) in
           let e : cs ≡ empty = leaf-empty d h cs (w .0) (f .within) in
@@ -145,11 +145,11 @@ module _ {o : List ℕ} {form : Form} {i at : ℕ} {x : Found} (row-at : RowAt o
         filled h e z = (ap₂ On (sym (ap (λ (m : Row). m .end) z) ∙ ap (λ (l : List ℕ). at + length l) (sym (leaf-spelt h e))) (one-more k), st .stored ∙ ap (putRow lim t k) (sym z) ∙ one-put lim k t (frontRow i h at) ∙ ap (puts lim t k) (sym (leaf-rows i at h e)))
 
     pub value-deep : {row : Row} {n : Nest} → x ≡ Holder row n → d ≡ 0 → FilledValue o lim form i at k d t Unread t
-    value-deep q e = record { forth = tt; same = λ h cs f b r. absurd (subst (λ (y : ℕ). Within y (nestOf h cs) cs) e (f .within)) }
+    value-deep q e = record { advanced = tt; same = λ h cs f b r. absurd (subst (λ (y : ℕ). Within y (nestOf h cs) cs) e (f .within)) }
 
     pub value-holder : {row : Row} {n : Nest} {r : Step} {t' : Table} → x ≡ Holder row n → (d ≡ 0 → ⊥) → FilledElements o lim row n k (k + 1) (d - 1) t r t' → FilledValue o lim form i at k d t r t'
     value-holder {row} {n} {r} {t'} q g el = record {
-      forth = by r (el .forth);
+      advanced = by r (el .advanced);
       same = λ h cs f b m.
           let w = holder-is (kindOf (h .ty) .holds) (nestOf h cs) (sym (accepted h cs f b) ∙ q) in
           let dd : d ≡ suc (d - 1) = omega arith in
@@ -161,7 +161,7 @@ module _ {o : List ℕ} {form : Form} {i at : ℕ} {x : Found} (row-at : RowAt o
           (s .0 ∙ ap₂ On long (omega arith), s .1 ∙ whole h cs (w .0) (w .1));
     }
       where
-        by : (y : Step) → Forth o lim (row .end) (k + 1) y → Forth o lim at (suc k) y
+        by : (y : Step) → Advanced o lim (row .end) (k + 1) y → Advanced o lim at (suc k) y
         by (On next rows) p = let a = subst (pastFound o at) q (row-at .past) in (omega arith, p .1, omega arith, p .3)
         by Unread p = tt
 
@@ -170,4 +170,4 @@ module _ {o : List ℕ} {form : Form} {i at : ℕ} {x : Found} (row-at : RowAt o
         whole h cs a b = rw (← a, ← b) (more-put lim k t (closed (frontRow i h at) (count cs) (at + length (fore h) + length (spellChildren (nestOf h cs .indexed) cs))) (rowsFrom (nestOf h cs .indexed) (at + length (fore h)) cs) ∙ ap (puts lim t k) (sym (value-rows i at h cs)))
 
 pub value-crowded : {o : List ℕ} {lim : ℕ} {form : Form} {i at k d : ℕ} {t : Table} → lim ≤ k → FilledValue o lim form i at k d t Unread t
-value-crowded l = record { forth = tt; same = λ h cs f b r. absurd (omega arith) }
+value-crowded l = record { advanced = tt; same = λ h cs f b r. absurd (omega arith) }

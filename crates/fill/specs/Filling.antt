@@ -53,19 +53,19 @@ pub record Ready (o : List ℕ) (lim at k : ℕ) (t : Table) : Type 0 where
   pub inside : at ≤ length o
   pub below : k ≤ lim
 
-abbrev pub Forth : List ℕ → ℕ → ℕ → ℕ → Step → Type 0
-Forth o lim at k (On next rows) = (at ≤ next) × (next ≤ length o) × (k ≤ rows) × (rows ≤ lim)
-Forth o lim at k Unread = Unit {0}
+abbrev pub Advanced : List ℕ → ℕ → ℕ → ℕ → Step → Type 0
+Advanced o lim at k (On next rows) = (at ≤ next) × (next ≤ length o) × (k ≤ rows) × (rows ≤ lim)
+Advanced o lim at k Unread = Unit {0}
 
 -- a value with label i, from `at` on: its rows stand from k on
 pub record FilledValue (o : List ℕ) (lim : ℕ) (form : Form) (i at k d : ℕ) (t : Table) (r : Step) (t' : Table) : Type 0 where
-  pub forth : Forth o lim at (suc k) r
+  pub advanced : Advanced o lim at (suc k) r
   pub same : (h : Head) (cs : Children) → Fit d form h cs → Begins o at (spell (value h cs)) → k + suc (count cs) ≤ lim
       → (r ≡ On (at + length (spell (value h cs))) (k + suc (count cs))) × (t' ≡ puts lim t k (rowsFrom false at (child i h cs empty)))
 
 -- the values of a container whose row, up to them, is given and belongs at k: their rows stand from `base` on
 pub record FilledElements (o : List ℕ) (lim : ℕ) (row : Row) (n : Nest) (k base d : ℕ) (t : Table) (r : Step) (t' : Table) : Type 0 where
-  pub forth : Forth o lim (row .end) base r
+  pub advanced : Advanced o lim (row .end) base r
   pub same : (cs : Children) → Fillable d n 0 cs → Begins o (row .end) (spellChildren (n .indexed) cs) → base + count cs ≤ lim
       → (r ≡ On (row .end + length (spellChildren (n .indexed) cs)) (base + count cs))
       × (t' ≡ putRow lim (puts lim t base (rowsFrom (n .indexed) (row .end) cs)) k (closed row (count cs) (row .end + length (spellChildren (n .indexed) cs))))

@@ -75,7 +75,7 @@ pub enum Numbered {
 fn int_number(src: &[u8], at: usize) -> Numbered
     ensures { λ r. ⌜ ((w : Bits) → NumberAt (now (src .entry)) (packed (widthOf w)) at r) ⌝ }
 {
-    match integer::int64_at(src, at) {
+    match integer::known64_at(src, at) {
         Read64::Int64(next, z) => Numbered::Number(next, z),
         Read64::Refused64(_) => Numbered::Missing,
     }

@@ -12,11 +12,13 @@ use borrow.Author.Tests.{ltb-true, lt-ltb, le-ltb, eq-eqb, ne-eqb}
 use Rattle.reading.specs.declared.Refusal.{Refusal}
 use Rattle.reading.specs.Reading.{Env, State, Out, got, stop, Reader, refusal, stand, follow, _>>=_, return, require, refuse, either, here}
 use Rattle.reading.proofs.Places.{octet-at, octet-end}
-use Rattle.integer.specs.Packed.{Width, further, sign, positive, integer}
+use Rattle.integer.specs.Packed.{Width, wide64, further, sign, positive, integer}
+use Rattle.integer.specs.declared.Read64.{Read64}
+use Rattle.integer.specs.declared.Read64.the-variants.{Int64}
 use Rattle.integer.specs.declared.Few.{Few}
 use Rattle.integer.specs.declared.Magnitude.{Magnitude}
 use Rattle.integer.specs.declared.Magnitude.the-variants.{Mag, Ill}
-use Rattle.integer.specs.Answers.{tail, magOut, pastMag, Tail, joinedOf, gate, fewOf, also, Also, few, FewAt}
+use Rattle.integer.specs.Answers.{tail, magOut, pastMag, Tail, joinedOf, gate, fewOf, also, Also, few, FewAt, Reads64, Knows64}
 
 -- ---- the octets after the first, where m is what those before them hold and c the worth of the next
 
@@ -246,6 +248,7 @@ pub few-made : {o : List ℕ} {at : ℕ} {r1 r2 r3 r4 : Few} → Also (fewOf 1 0
 few-made {o} {at} e1 e2 e3 e4 = record {
   same = e4 .same ∙ ap (λ (f : Few). also f 2097152 (getD o (at + 4) 0)) (e3 .same ∙ ap (λ (f : Few). also f 16384 (getD o (at + 3) 0)) (e2 .same ∙ ap (λ (f : Few). also f 128 (getD o (at + 2) 0)) (e1 .same)));
   few-are = omega (arith, e1 .few, e2 .few, e3 .few, e4 .few);
+  held = omega (arith, e1 .held, e2 .held, e3 .held, e4 .held);
 }
 
 pub few-joined : {o : List ℕ} {at more b bound : ℕ} {f : Few} {r : Magnitude} → 4 ≤ more → at + 5 ≤ length o → ((i : ℕ) → getD o i 0 < 256) → FewAt o at f → f .more ≡ 0
@@ -297,3 +300,28 @@ module _ {w : Width} {o : List ℕ} {at : ℕ} {r : Magnitude} (t : Tail (w .mor
 -- an integer that was read, said another way
 pub told : {y z : ℤ} {s : State} {x : Out ℤ} → z ≡ y → x ≡ got y s → got z s ≡ x
 told {s} e h = ap (λ (z : ℤ). got z s) e ∙ sym h
+
+-- ---- an integer that is known to be there
+
+pub knows : {o : List ℕ} {at : ℕ} {r : Read64} → Reads64 o at r → Knows64 o at r
+knows reads = record { same = λ e z s h. reads .same e ∙ h; past = reads .past }
+
+no-stop : {r : Refusal} {z : ℤ} {s : State} → _≡_ {A = Out ℤ} (stop r) (got z s) → ⊥
+no-stop h = let z : _≡_ {A = ℕ} 0 1 = cc in omega arith
+
+pub few-known : {o : List ℕ} {at : ℕ} {f : Few} {y : ℤ} → at + 5 ≤ length o → ((i : ℕ) → getD o i 0 < 256) → 128 ≤ getD o at 0 → FewAt o at f → f .more ≡ 0
+    → y ≡ sign (positive (getD o at 0)) (getD o at 0 % 64 + 64 * f .bits) → Knows64 o at (Int64 (at + f .count + 1) y)
+unfolding return
+few-known {o} {at} {f} {y} h small k few z q =
+    let t = few-joined {more = 9} {b = getD o at 0} {bound = 2 ^ 63} (omega arith) h small few z refl in
+    record {
+      same = λ e v s g. by e v s (eqb (getD o (at + f .count) 0) 0) (ltb (getD o at 0 % 64 + 64 * f .bits) (2 ^ 63)) (sym (found {w = wide64} t (omega arith) k e) ∙ g);
+      past = (omega arith, omega (arith, few .few-are));
+    }
+  where
+    by : (e : Env) (v : ℤ) (s : State) (a b : Bool)
+        → follow (magOut o e (cond a (Ill (refusal 3 at)) (cond b (Mag (at + f .count + 1) (getD o at 0 % 64 + 64 * f .bits)) (Ill (refusal 3 at))))) (λ n. return (sign (positive (getD o at 0)) n)) ≡ got v s
+        → got y (stand o (at + f .count + 1) e) ≡ got v s
+    by e v s true b g = absurd (no-stop g)
+    by e v s false true g = ap (λ (x : ℤ). got x (stand o (at + f .count + 1) e)) q ∙ g
+    by e v s false false g = absurd (no-stop g)

@@ -6,7 +6,7 @@ use Prim.Native.Nat.{ℕ, _+_, _*_, _/_, _%_, _<_, _≤_, _^_}
 use lib.ListN.{length, getD}
 use lib.Dec.{ltb, eqb}
 use lib.IntN.{ℤ, pos, negsuc}
-use Rattle.reading.specs.Reading.{Env, Out, got, stop, Reader, refusal, stand, _>>=_, _>>_, return, require}
+use Rattle.reading.specs.Reading.{Env, State, Out, got, stop, Reader, refusal, stand, _>>=_, _>>_, return, require}
 use Rattle.integer.specs.Packed.{Width, wide32, wide64, further, integer}
 use Rattle.integer.specs.declared.Few.{Few}
 use Rattle.integer.specs.declared.Magnitude.{Magnitude}
@@ -43,6 +43,11 @@ pub record Reads32 (o : List ℕ) (at : ℕ) (r : Read32) : Type 0 where
 
 pub record Reads64 (o : List ℕ) (at : ℕ) (r : Read64) : Type 0 where
   pub same : (e : Env) → out64 o e r ≡ integer wide64 (stand o at e)
+  pub past : past64 o at r
+
+-- of octets that hold a 64-bit integer there
+pub record Knows64 (o : List ℕ) (at : ℕ) (r : Read64) : Type 0 where
+  pub same : (e : Env) (z : ℤ) (s : State) → integer wide64 (stand o at e) ≡ got z s → out64 o e r ≡ got z s
   pub past : past64 o at r
 
 abbrev pub outSigned : List ℕ → Env → Signed → Out ℤ
@@ -111,3 +116,4 @@ few b1 b2 b3 b4 = also (also (also (also (fewOf 1 0 0) 1 b1) 128 b2) 16384 b3) 2
 pub record FewAt (o : List ℕ) (at : ℕ) (r : Few) : Type 0 where
   pub same : r ≡ few (getD o (at + 1) 0) (getD o (at + 2) 0) (getD o (at + 3) 0) (getD o (at + 4) 0)
   pub few-are : r .count ≤ 4
+  pub held : r .bits < 2 ^ 28

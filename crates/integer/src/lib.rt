@@ -4,7 +4,7 @@ ghost use lib.ListN.{length};
 ghost use lib.Signed.{mag};
 ghost use Rattle.integer.specs.Packed.{sign, groups, spellWith, signBit, spellInt};
 ghost use Rattle.integer.specs.Writes.{Room, Wrote};
-ghost use Rattle.integer.specs.Answers.{gate, Also, FewAt, joinedOf, Tail, Reads32, ReadsSigned, Reads64};
+ghost use Rattle.integer.specs.Answers.{gate, Also, FewAt, joinedOf, Tail, Reads32, ReadsSigned, Reads64, Knows64};
 use reading::Refusal;
 
 // ---- Reading ----
@@ -233,6 +233,31 @@ pub fn int64_at(src: &[u8], at: usize) -> Read64
         Magnitude::Mag(next, n) => Read64::Int64(next, signed64(b % 128 < 64, n)),
         Magnitude::Ill(r) => Read64::Refused64(r),
     }
+}
+
+// The same of octets that hold such an integer there: what was judged before is not judged again.
+pub fn known64_at(src: &[u8], at: usize) -> Read64
+    ensures { λ r. ⌜ Knows64 (now (src .entry)) at r ⌝ }
+{
+    if src.len() <= at {
+        return Read64::Refused64(Refusal {
+            place: at,
+            number: 1,
+        });
+    }
+    let b = src[at];
+    if b < 128 {
+        return Read64::Int64(at + 1, signed64(b % 128 < 64, (b % 64) as u64));
+    }
+    if 5 <= src.len() - at {
+        let f = few_at(src, at);
+        let count = f.count;
+        if f.more == 0 {
+            let n = ((b % 64) as u64) + 64 * f.bits;
+            return Read64::Int64(at + count + 1, signed64(b % 128 < 64, n));
+        }
+    }
+    int64_at(src, at)
 }
 
 // ---- Writing ----

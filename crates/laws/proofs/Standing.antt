@@ -9,7 +9,7 @@ use Rattle.reading.specs.Reading.{Env, State, got, Reader, stand}
 use Rattle.reading.proofs.Sound.{Octets, octets-rest, Takes, Sound}
 use Rattle.format.specs.Values.{Form, Value, each, dataOf}
 use Rattle.laws.proofs.Sound.{data-sound}
-use Rattle.laws.proofs.Bounds.{Sturdy, each-some}
+use Rattle.laws.proofs.Bounds.{Elemental, each-some}
 
 -- where a reading from a place comes to, with what holds of it
 pub record Stands {A : Type 0} (o : List ℕ) (at : ℕ) (a : A) (s : State) (Q : A → State → List ℕ → Type 0) : Type 0 where
@@ -36,7 +36,7 @@ stands {A} {p} {Q} o at e x h k a s q =
         }
 
 -- after a value with its identifier, or bare of a carried type above -31, the place is further on
-pub value-further : (lv : ℕ) (f : Form) (o : List ℕ) (at : ℕ) (e : Env) (v : Value) (s : State) → Octets o → at ≤ length o → Sturdy f → each (dataOf lv) f (stand o at e) ≡ got v s → at < s .at
+pub value-further : (lv : ℕ) (f : Form) (o : List ℕ) (at : ℕ) (e : Env) (v : Value) (s : State) → Octets o → at ≤ length o → Elemental f → each (dataOf lv) f (stand o at e) ≡ got v s → at < s .at
 unfolding stand
 value-further lv f o at e v s x h k q =
     let w = stands o at e x h (each-some lv (dataOf lv) (data-sound lv) f (stand o at e) k) v s q in

@@ -89,7 +89,7 @@ value-odd {o} {l} {w} {at} h e = record { plan = λ f s lv. ap (λ (y : Out Valu
 -- an octet at least lies before the end of the data
 starts-before : {at from : ℕ} {t : ℤ} {c : Class} → ClassOf t c → at ≤ from → (at < from) ⊎ (elementary t ≡ true) → at + 1 ≤ from + leastOf c
 starts-before k h (inl p) = omega arith
-starts-before k h (inr e) = omega (arith, k .least (k .sturdy ∙ e))
+starts-before k h (inr e) = omega (arith, k .least (k .element ∙ e))
 
 pub value-typed : {o l : List ℕ} {w : Form} {at from own : ℕ} {z : ℤ} {c : Class} {once : Bool} {x : Typed} {r : Plan} → at ≤ length o → TypedAt o w at x → x ≡ Standing from own z → mag z < 2 ^ 31
     → ClassOf (toZ w32 (ofZ w32 z)) c → once ≡ onceOf w → DataPlan o l c once from at r → ValuePlan o l w at r

@@ -17,12 +17,12 @@ class-of-requires : tie.Need-class-of-requires
 class-of-requires c κs = search needs
 
 -- src/lib.rt:141:16
-sturdy-requires : tie.Need-sturdy-requires
-sturdy-requires c κs = search needs
+may-be-element-requires : tie.Need-may-be-element-requires
+may-be-element-requires c κs = search needs
 
 -- src/lib.rt:142:17
 returns : tie.Need-returns
-returns c = type-some (c .before .before .before .before .before .before .int32-at .ensures) (c .before .before .before .before .next .given .1) (c .before .before .before .known-told .given .1 .0 .1) (c .before .before .class-of .ensures) (sym (c .before .sturdy .ensures) ∙ c .if1 .taken)
+returns c = type-some (c .before .before .before .before .before .before .int32-at .ensures) (c .before .before .before .before .next .given .1) (c .before .before .before .known-told .given .1 .0 .1) (c .before .before .class-of .ensures) (sym (c .before .may-be-element .ensures) ∙ c .if1 .taken)
 
 -- src/lib.rt:149:27
 enum-known-r : tie.Need-enum-known-r
@@ -30,7 +30,7 @@ enum-known-r c = search needs
 
 -- src/lib.rt:136:1
 returns-2 : tie.Need-returns-2
-returns-2 c = type-none (c .before .before .before .before .before .before .int32-at .ensures) (c .before .before .before .before .next .given .1) (c .before .before .before .known-told .given .1 .0 .1) (c .before .before .class-of .ensures) (sym (c .before .sturdy .ensures) ∙ c .if1 .left)
+returns-2 c = type-none (c .before .before .before .before .before .before .int32-at .ensures) (c .before .before .before .before .next .given .1) (c .before .before .before .known-told .given .1 .0 .1) (c .before .before .class-of .ensures) (sym (c .before .may-be-element .ensures) ∙ c .if1 .left)
 
 -- src/lib.rt:136:1
 returns-3 : tie.Need-returns-3
@@ -43,7 +43,7 @@ element-at-spec =
     int32-at-requires
     enum-known-next
     class-of-requires
-    sturdy-requires
+    may-be-element-requires
     returns
     enum-known-r
     returns-2
