@@ -1,7 +1,7 @@
 -- The answer to a case, by what is read of it.
 use mathlib.Core.Path.{_≡_, refl, sym, ap, _∙_}
 use mathlib.Core.Bool.{Bool, true, false, cond}
-use mathlib.Core.List.{List, [], _∷_}
+use mathlib.Core.List.{List, []}
 use Prim.Native.Nat.{ℕ, _^_, _<_}
 use native.Mathlib.Omega.{arith}
 use lib.ListN.{getD, drop}
@@ -18,11 +18,9 @@ use Rattle.format.specs.declared.As.{As}
 use Rattle.format.specs.Asking.{ask}
 use Rattle.format.specs.Message.{Answer, refused}
 use Rattle.queries.specs.declared.Number.{Number}
-use Rattle.queries.specs.declared.Numeral.the-variants.{Says}
 use Rattle.queries.specs.declared.Integer.{Integer}
 use Rattle.queries.specs.declared.Integer.the-variants.{Held, Beyond}
 use Rattle.queries.specs.declared.Word.{Word}
-use Rattle.queries.specs.declared.Word.the-variants as words
 use Rattle.queries.specs.Numerals.{numeralOf, integerOf, signed}
 use Rattle.queries.specs.Queries.{fieldsOf, after, lastWord, rowOf, askRow, Outcome, answer, malformed, wordOutcome, fieldsOutcome, outcome}
 use Rattle.queries.specs.Reads.{NumberRead, heldIn}

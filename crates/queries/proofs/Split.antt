@@ -9,7 +9,6 @@ use lib.Seq.{take-all, drop-drop}
 use lib.Dec.{eqb}
 use Rattle.bytes.specs.Bytes.{slice, indexAfter, indexOf}
 use Rattle.queries.specs.declared.Number.{Number}
-use Rattle.queries.specs.declared.Numeral.{Numeral}
 use Rattle.queries.specs.declared.Numeral.the-variants.{Says, Not}
 use Rattle.queries.specs.declared.Word.{Word}
 use Rattle.queries.specs.declared.Word.the-variants as words

@@ -5,7 +5,6 @@ use Prim.Native.Nat.{ℕ, zero, suc, _+_, _-_, _*_}
 use lib.ListN.{length, getD, drop}
 use lib.Dec.{leb, eqb}
 use lib.IntN.{ℤ, pos, negsuc}
-use Rattle.queries.specs.declared.Number.{Number}
 use Rattle.queries.specs.declared.Numeral.{Numeral}
 use Rattle.queries.specs.declared.Numeral.the-variants.{Says, Not}
 

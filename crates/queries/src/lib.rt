@@ -16,13 +16,13 @@ use reading::Refusal;
 // ---- Numbers ----
 
 // A number as it is written: whether it has a minus, and what its digits say.
-pub struct Number {
-    pub minus: bool,
-    pub size: u64,
+struct Number {
+    minus: bool,
+    size: u64,
 }
 
 // The number that a field says, or that it says none.
-pub enum Numeral {
+enum Numeral {
     Says(Number),
     Not,
 }
@@ -100,7 +100,7 @@ fn number_of(field: &[u8]) -> Numeral
 // ---- Fields ----
 
 // A number and the place past the blank after it, or that there is none.
-pub enum Told {
+enum Told {
     Past(Number, usize),
     Not,
 }
@@ -122,7 +122,7 @@ fn number_at(line: &[u8], at: usize) -> Told
 }
 
 // The place of a field, or that there is none.
-pub enum Place {
+enum Place {
     At(usize),
     Not,
 }
@@ -161,7 +161,7 @@ fn same(a: &[u8], b: &[u8]) -> bool
 }
 
 // The type that a word names, or that it names none.
-pub enum Word {
+enum Word {
     Names(As),
     Not,
 }
@@ -206,7 +206,7 @@ fn last_word(line: &[u8], at: usize) -> Word
 // ---- Asking ----
 
 // An integer that so many bits hold, or that they do not.
-pub enum Integer {
+enum Integer {
     Held(i64),
     Beyond,
 }

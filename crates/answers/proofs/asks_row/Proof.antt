@@ -3,26 +3,19 @@ use Rattle.answers.proofs.Fields.{asks-short, asks-other, asks-blank}
 use borrow.Author.Needs.{needs}
 use Rattle.answers.proofs.asks_row.Statement.{statement}
 use Rattle.answers.proofs.asks_row.Tie as tie
-use Rattle.answers.proofs.asks_row.Reads as reads
-use Rattle.answers.proofs.asks_row.Lts as lts
 
--- src/lib.rt:388:9
 returns : tie.Need-returns
 returns c = sym (asks-short (c .before .args .line .now) (c .if1 .taken))
 
--- src/lib.rt:390:8
 shared-slice-read-if2 : tie.Need-shared-slice-read-if2
 shared-slice-read-if2 c = search needs
 
--- src/lib.rt:391:9
 returns-2 : tie.Need-returns-2
 returns-2 c = sym (asks-other (c .before .before .before .args .line .now) (c .before .before .if1 .left) (c .if2 .taken))
 
--- src/lib.rt:393:5
 shared-slice-read-result : tie.Need-shared-slice-read-result
 shared-slice-read-result c = search needs
 
--- src/lib.rt:384:1
 returns-3 : tie.Need-returns-3
 returns-3 c = sym (asks-blank (c .before .before .before .before .args .line .now) (c .before .before .before .if1 .left) (c .before .if2 .left))
 

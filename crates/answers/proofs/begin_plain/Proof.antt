@@ -1,52 +1,36 @@
 use mathlib.Core.Path.{sym, _∙_}
-use native.Mathlib.Omega.{arith}
 use Rattle.answers.proofs.Fields.{asks-yes, plain-query, plain-bad}
 use borrow.Author.Needs.{needs}
 use Rattle.answers.proofs.begin_plain.Statement.{statement}
 use Rattle.answers.proofs.begin_plain.Tie as tie
-use Rattle.answers.proofs.begin_plain.Reads as reads
-use Rattle.answers.proofs.begin_plain.Lts as lts
-use Rattle.answers.proofs.asks_row.Reads as asks-row-reads
-use Rattle.answers.proofs.begin_query.Reads as begin-query-reads
-use Rattle.answers.proofs.put_bad.Reads as put-bad-reads
 
--- src/lib.rt:401:8
 asks-row-requires : tie.Need-asks-row-requires
 asks-row-requires c κs = search needs
 
--- src/lib.rt:402:28
 sub-begin-query : tie.Need-sub-begin-query
 sub-begin-query c = asks-yes _ (sym (c .before .asks-row .ensures) ∙ c .if1 .taken) .0
 
--- src/lib.rt:402:28
 part-begin-query-start : tie.Need-part-begin-query-start
 part-begin-query-start c = asks-yes _ (sym (c .before .asks-row .ensures) ∙ c .if1 .taken) .0
 
--- src/lib.rt:402:28
 part-begin-query-end : tie.Need-part-begin-query-end
 part-begin-query-end c = search needs
 
--- src/lib.rt:402:9
 begin-query-requires : tie.Need-begin-query-requires
 begin-query-requires c κs = search needs
 
--- src/lib.rt:402:9
 same-length : tie.Need-same-length
 same-length c = search needs
 
--- src/lib.rt:402:9
 returns : tie.Need-returns
 returns c = plain-query (c .before .before .before .before .before .before .before .before .before .args .line .now) (sym (c .before .before .before .before .before .before .asks-row .ensures) ∙ c .before .before .before .before .before .if1 .taken) (c .before .before .begin-query .ensures)
 
--- src/lib.rt:404:5
 put-bad-requires : tie.Need-put-bad-requires
 put-bad-requires c κs = search needs
 
--- src/lib.rt:397:1
 same-length-2 : tie.Need-same-length-2
 same-length-2 c = search needs
 
--- src/lib.rt:397:1
 returns-2 : tie.Need-returns-2
 returns-2 c = plain-bad (c .before .before .before .before .before .before .before .before .args .line .now) (sym (c .before .before .before .before .before .asks-row .ensures) ∙ c .before .before .before .before .if1 .left) (c .before .before .put-bad .ensures)
 

@@ -3,62 +3,43 @@ use Rattle.answers.proofs.Replies.{query-value, query-no, query-bad}
 use borrow.Author.Needs.{needs}
 use Rattle.answers.proofs.begin_query.Statement.{statement}
 use Rattle.answers.proofs.begin_query.Tie as tie
-use Rattle.answers.proofs.begin_query.Reads as reads
-use Rattle.answers.proofs.begin_query.Lts as lts
-use Rattle.answers.proofs.put_bad.Reads as put-bad-reads
-use Rattle.answers.proofs.put_no.Reads as put-no-reads
-use Rattle.answers.proofs.put_value.Reads as put-value-reads
-use Rattle.queries.proofs.ask_line.Reads as ask-line-reads
 
--- src/lib.rt:376:11
 ask-line-requires : tie.Need-ask-line-requires
 ask-line-requires c κs = search needs
 
--- src/lib.rt:377:22
 enum-known-v : tie.Need-enum-known-v
 enum-known-v c = search needs
 
--- src/lib.rt:377:28
 put-value-requires : tie.Need-put-value-requires
 put-value-requires c κs = search needs
 
--- src/lib.rt:378:24
 enum-known-r : tie.Need-enum-known-r
 enum-known-r c = search needs
 
--- src/lib.rt:378:30
 put-no-requires : tie.Need-put-no-requires
 put-no-requires c κs = search needs
 
--- src/lib.rt:379:37
 enum-told : tie.Need-enum-told
 enum-told c = search needs
 
--- src/lib.rt:379:29
 put-bad-requires : tie.Need-put-bad-requires
 put-bad-requires c κs = search needs
 
--- src/lib.rt:372:1
 same-length : tie.Need-same-length
 same-length c = search needs
 
--- src/lib.rt:372:1
 returns : tie.Need-returns
 returns c = query-value _ (c .before .before .before .before .before .before .before .ask-line .ensures) (c .before .before .before .before .before .v .given .1) (held (record { sfits = c .before .before .before .before .known-told .given .0 .1 })) (c .before .before .put-value .ensures)
 
--- src/lib.rt:372:1
 same-length-2 : tie.Need-same-length-2
 same-length-2 c = search needs
 
--- src/lib.rt:372:1
 returns-2 : tie.Need-returns-2
 returns-2 c = query-no _ (c .before .before .before .before .before .before .before .ask-line .ensures) (c .before .before .before .before .before .r .given .1) (c .before .before .put-no .ensures)
 
--- src/lib.rt:372:1
 same-length-3 : tie.Need-same-length-3
 same-length-3 c = search needs
 
--- src/lib.rt:372:1
 returns-3 : tie.Need-returns-3
 returns-3 c = query-bad _ (c .before .before .before .before .before .before .ask-line .ensures) (c .before .before .before .before .enum-told .given .1) (c .before .before .put-bad .ensures)
 

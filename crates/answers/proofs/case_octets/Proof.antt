@@ -3,52 +3,37 @@ use Rattle.answers.proofs.Fields.{case-asks, case-short, case-other, ca
 use borrow.Author.Needs.{needs}
 use Rattle.answers.proofs.case_octets.Statement.{statement}
 use Rattle.answers.proofs.case_octets.Tie as tie
-use Rattle.answers.proofs.case_octets.Reads as reads
-use Rattle.answers.proofs.case_octets.Lts as lts
-use Rattle.answers.proofs.asks_row.Reads as asks-row-reads
-use Rattle.answers.proofs.field_octets.Reads as field-octets-reads
 
--- src/lib.rt:486:8
 asks-row-requires : tie.Need-asks-row-requires
 asks-row-requires c κs = search needs
 
--- src/lib.rt:487:9
 returns : tie.Need-returns
 returns c = case-asks (c .before .before .before .before .args .line .now) (sym (c .before .asks-row .ensures) ∙ c .if1 .taken)
 
--- src/lib.rt:490:9
 returns-2 : tie.Need-returns-2
 returns-2 c = case-short (c .before .before .before .before .before .args .line .now) (sym (c .before .before .asks-row .ensures) ∙ c .before .if1 .left) (c .if2 .taken)
 
--- src/lib.rt:492:8
 shared-slice-read-if3 : tie.Need-shared-slice-read-if3
 shared-slice-read-if3 c = search needs
 
--- src/lib.rt:493:9
 returns-3 : tie.Need-returns-3
 returns-3 c = case-other (c .before .before .before .before .before .before .before .args .line .now) (sym (c .before .before .before .before .asks-row .ensures) ∙ c .before .before .before .if1 .left) (c .before .before .if2 .left) (c .if3 .taken)
 
--- src/lib.rt:495:18
 sub-field-octets : tie.Need-sub-field-octets
 sub-field-octets c = search needs
 
--- src/lib.rt:495:18
 part-field-octets-start : tie.Need-part-field-octets-start
 part-field-octets-start c = search needs
 
--- src/lib.rt:495:18
 part-field-octets-end : tie.Need-part-field-octets-end
 part-field-octets-end c = search needs
 
--- src/lib.rt:495:5
 field-octets-requires : tie.Need-field-octets-requires
 field-octets-requires c κs = search needs
 
--- src/lib.rt:482:1
 same-length : tie.Need-same-length
 same-length c = search needs
 
--- src/lib.rt:482:1
 returns-4 : tie.Need-returns-4
 returns-4 c = case-read (c .before .before .before .before .before .before .before .before .before .before .before .before .args .line .now) (sym (c .before .before .before .before .before .before .before .before .before .asks-row .ensures) ∙ c .before .before .before .before .before .before .before .before .if1 .left) (c .before .before .before .before .before .before .before .if2 .left) (c .before .before .before .before .before .if3 .left) (c .before .before .field-octets .result) _ (c .before .before .field-octets .ensures)
 

@@ -7,43 +7,31 @@ use Rattle.answers.proofs.Texts.{value-begun, value-short, room, listed
 use borrow.Author.Needs.{needs}
 use Rattle.answers.proofs.put_value.Statement.{statement}
 use Rattle.answers.proofs.put_value.Tie as tie
-use Rattle.answers.proofs.put_value.Reads as reads
-use Rattle.answers.proofs.put_value.Lts as lts
-use Rattle.text.proofs.put_number.Reads as put-number-reads
 
--- src/lib.rt:78:5
 slice-write-out : tie.Need-slice-write-out
 slice-write-out c = search needs
 
--- src/lib.rt:79:9
 add-out : tie.Need-add-out
 add-out c = search needs
 
--- src/lib.rt:79:5
 slice-write-out-2 : tie.Need-slice-write-out-2
 slice-write-out-2 c = simp length-set (omega arith)
 
--- src/lib.rt:80:9
 add-out-2 : tie.Need-add-out-2
 add-out-2 c = search needs
 
--- src/lib.rt:80:5
 slice-write-out-3 : tie.Need-slice-write-out-3
 slice-write-out-3 c = simp length-set (omega arith)
 
--- src/lib.rt:81:27
 add-put-number : tie.Need-add-put-number
 add-put-number c = search needs
 
--- src/lib.rt:81:5
 put-number-requires : tie.Need-put-number-requires
 put-number-requires c κs = rw (held (c .before .before .fits .v)) (left-fits (value-begun (c .before .before .args .v) (room (c .before .before .args .at) (c .before .before .args .out .now) (value-short _ (c .before .before .fits .v .sfits)) (c .before .before .pre))) _ _ refl)
 
--- src/lib.rt:74:1
 same-length : tie.Need-same-length
 same-length c = left-part (value-begun (c .before .before .before .before .before .args .v) (room (c .before .before .before .before .before .args .at) (c .before .before .before .before .before .args .out .now) (value-short _ (c .before .before .before .before .before .fits .v .sfits)) (c .before .before .before .before .before .pre))) _ refl (rw (held (c .before .before .before .before .before .fits .v)) at (c .before .before .put-number .ensures)) .kept
 
--- src/lib.rt:74:1
 returns : tie.Need-returns
 returns c = listed (value-short _ (c .before .before .before .before .before .fits .v .sfits)) (left-none (left-part (value-begun (c .before .before .before .before .before .args .v) (room (c .before .before .before .before .before .args .at) (c .before .before .before .before .before .args .out .now) (value-short _ (c .before .before .before .before .before .fits .v .sfits)) (c .before .before .before .before .before .pre))) _ refl (rw (held (c .before .before .before .before .before .fits .v)) at (c .before .before .put-number .ensures))) refl)
 
