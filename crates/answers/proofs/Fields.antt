@@ -1,20 +1,23 @@
 -- What a field tells.
-use mathlib.Core.Path.{_≡_, ap, sym, _∙_}
-use mathlib.Core.Bool.{true, false}
+use mathlib.Core.Path.{_≡_, refl, ap, sym, _∙_}
+use mathlib.Core.Bool.{Bool, true, false, _&&_}
 use mathlib.Core.List.{List, []}
 use Prim.Native.Nat.{ℕ, _-_, _*_, _%_, _<_, _≤_}
 use native.Mathlib.Omega.{arith}
 use lib.ListN.{length, getD, take, drop, length-drop}
 use lib.Seq.{length-sets, take-all}
-use borrow.Author.Tests.{le-leb, lt-leb, lt-ltb, le-ltb, eq-eqb, ne-eqb}
+use lib.Dec.{leb, eqb}
+use borrow.Author.Tests.{leb-true, eqb-true, le-leb, lt-leb, lt-ltb, le-ltb, eq-eqb, ne-eqb}
 use Rattle.format.specs.Desk.{allDigits, octetsOf}
 use Rattle.integer.specs.Writes.{Room, Wrote}
 use Rattle.text.proofs.Digits.{octets-length}
 use Rattle.text.proofs.Writes.{wrote-front}
 use Rattle.text.specs.declared.Line.{Line}
 use Rattle.text.specs.declared.Line.the-variants.{Octets, Not}
-use Rattle.answers.specs.Cases.{some, malformed, fieldOf, alone, bad, fieldReply, caseReply}
-use Rattle.answers.specs.Fields.{FieldRead, CaseRead}
+use Rattle.queries.specs.Queries.{outcome}
+use Rattle.listing.specs.Listing.{Listed}
+use Rattle.answers.specs.Cases.{some, malformed, fieldOf, alone, bad, queryText, fieldReply, caseReply}
+use Rattle.answers.specs.Fields.{FieldRead, asksRow, plainText, CaseRead}
 
 module _ (l : List ℕ) where
   pub none-there : length l ≡ 0 → fieldOf l ≡ malformed
@@ -54,16 +57,58 @@ module _ (l : List ℕ) where
 rest-all : (l : List ℕ) → take (length l - 2) (drop 2 l) ≡ drop 2 l
 rest-all l = take-all (length l - 2) (drop 2 l) (omega (arith, length-drop 2 l))
 
-pub case-short : (l : List ℕ) → length l < 2 → caseReply l ≡ alone bad
-case-short l h = rw (lt-ltb (length l) 2 h)
+-- ---- a case that asks a row
 
-module _ (l : List ℕ) (h : 2 ≤ length l) where
-  pub case-other : (getD l 1 0 ≡ 0x20 → ⊥) → caseReply l ≡ alone bad
-  case-other e = rw (le-ltb (length l) 2 h, ne-eqb (getD l 1 0) 0x20 e)
+module _ (l : List ℕ) where
+  pub asks-short : length l < 2 → asksRow l ≡ false
+  unfolding asksRow
+  asks-short h = rw (lt-leb 2 (length l) h)
 
-  case-field : getD l 1 0 ≡ 0x20 → caseReply l ≡ fieldReply (getD l 0 0) (fieldOf (drop 2 l))
-  case-field e = rw (le-ltb (length l) 2 h, eq-eqb (getD l 1 0) 0x20 e)
+  pub asks-other : 2 ≤ length l → (getD l 0 0 ≡ 0x41 → ⊥) → asksRow l ≡ false
+  unfolding asksRow
+  asks-other h e = rw (le-leb 2 (length l) h, ne-eqb (getD l 0 0) 0x41 e)
 
-  pub case-read : getD l 1 0 ≡ 0x20 → (r : Line) (after : List ℕ) → FieldRead (take (length l - 2) (drop 2 l)) r after → CaseRead l r after
-  case-read e (Octets n) after f = (case-field e ∙ ap (fieldReply (getD l 0 0)) (ap fieldOf (sym (rest-all l)) ∙ f .0), f .1, h)
-  case-read e Not after f = case-field e ∙ ap (fieldReply (getD l 0 0)) (ap fieldOf (sym (rest-all l)) ∙ f)
+  pub asks-blank : 2 ≤ length l → getD l 0 0 ≡ 0x41 → asksRow l ≡ eqb (getD l 1 0) 0x20
+  unfolding asksRow
+  asks-blank h e = rw (le-leb 2 (length l) h, eq-eqb (getD l 0 0) 0x41 e)
+
+  pub asks-yes : asksRow l ≡ true → (2 ≤ length l) × (getD l 0 0 ≡ 0x41) × (getD l 1 0 ≡ 0x20)
+  unfolding asksRow
+  asks-yes e = by (leb 2 (length l)) refl (eqb (getD l 0 0) 0x41) refl (eqb (getD l 1 0) 0x20) refl e
+    where
+      by : (r : Bool) → leb 2 (length l) ≡ r → (s : Bool) → eqb (getD l 0 0) 0x41 ≡ s → (t : Bool) → eqb (getD l 1 0) 0x20 ≡ t → (r && s && t) ≡ true
+          → (2 ≤ length l) × (getD l 0 0 ≡ 0x41) × (getD l 1 0 ≡ 0x20)
+      by true p true q true o e = (leb-true 2 (length l) p, eqb-true (getD l 0 0) 0x41 q, eqb-true (getD l 1 0) 0x20 o)
+      by true p true q false o e = let z : _≡_ {A = ℕ} 0 1 = cc in absurd (omega arith)
+      by true p false q t o e = let z : _≡_ {A = ℕ} 0 1 = cc in absurd (omega arith)
+      by false p s q t o e = let z : _≡_ {A = ℕ} 0 1 = cc in absurd (omega arith)
+
+  asks-no : asksRow l ≡ false → 2 ≤ length l → getD l 1 0 ≡ 0x20 → getD l 0 0 ≡ 0x41 → ⊥
+  asks-no e h b k = let t : true ≡ false = sym (asks-blank h k ∙ eq-eqb (getD l 1 0) 0x20 b) ∙ e in let z : _≡_ {A = ℕ} 0 1 = cc in omega arith
+
+  module _ {at next : ℕ} {m out : List ℕ} where
+    pub plain-query : asksRow l ≡ true → Listed (queryText (outcome (take (length l - 2) (drop 2 l)))) at m next out → Listed (plainText l) at m next out
+    plain-query e w = rw e (rw (rest-all l) at w)
+
+    pub plain-bad : asksRow l ≡ false → Listed bad at m next out → Listed (plainText l) at m next out
+    plain-bad e w = rw e w
+
+  pub case-asks : asksRow l ≡ true → caseReply l ≡ alone (plainText l)
+  case-asks e = let y = asks-yes e in rw (e, le-ltb (length l) 2 (y .0), eq-eqb (getD l 1 0) 0x20 (y .2), eq-eqb (getD l 0 0) 0x41 (y .1))
+
+-- ---- the others
+
+module _ (l : List ℕ) (a : asksRow l ≡ false) where
+  pub case-short : length l < 2 → caseReply l ≡ alone (plainText l)
+  case-short h = rw (a, lt-ltb (length l) 2 h)
+
+  module _ (h : 2 ≤ length l) where
+    pub case-other : (getD l 1 0 ≡ 0x20 → ⊥) → caseReply l ≡ alone (plainText l)
+    case-other e = rw (a, le-ltb (length l) 2 h, ne-eqb (getD l 1 0) 0x20 e)
+
+    case-field : getD l 1 0 ≡ 0x20 → caseReply l ≡ fieldReply (getD l 0 0) (fieldOf (drop 2 l))
+    case-field e = rw (le-ltb (length l) 2 h, eq-eqb (getD l 1 0) 0x20 e, ne-eqb (getD l 0 0) 0x41 (asks-no l a h e))
+
+    pub case-read : getD l 1 0 ≡ 0x20 → (r : Line) (after : List ℕ) → FieldRead (take (length l - 2) (drop 2 l)) r after → CaseRead l r after
+    case-read e (Octets n) after f = (case-field e ∙ ap (fieldReply (getD l 0 0)) (ap fieldOf (sym (rest-all l)) ∙ f .0), f .1, h)
+    case-read e Not after f = case-field e ∙ ap (fieldReply (getD l 0 0)) (ap fieldOf (sym (rest-all l)) ∙ f) ∙ sym (rw a)

@@ -22,10 +22,14 @@ use Rattle.frame.specs.declared.Framed.{Framed}
 use Rattle.frame.specs.declared.Framed.the-variants as framed
 use Rattle.frame.specs.Frames.{FrameRead}
 use Rattle.records.proofs.Records.{filled-rows, filled-room}
+use Rattle.queries.specs.declared.Query.{Query}
+use Rattle.queries.specs.declared.Query.the-variants as queries
+use Rattle.queries.specs.Queries.{Outcome, outcome}
+use Rattle.queries.specs.Reads.{told}
 use Rattle.listing.specs.Listing.{Listed}
 use Rattle.listing.proofs.Listing.{frame-refused, frame-given, frame-rows, frame-room}
 use Rattle.answers.specs.declared.Begun.{Begun}
-use Rattle.answers.specs.Cases.{rowParts, Reply, alone, bad, accepted, refusedBy, reply, measured, messageRows, frameRows, slash, deskText, lent, aloneText, octetsReply, caseReply, caseText}
+use Rattle.answers.specs.Cases.{rowParts, Reply, alone, bad, accepted, refusedBy, reply, measured, messageRows, frameRows, slash, deskText, queryText, lent, aloneText, octetsReply, caseReply, caseText}
 use Rattle.answers.specs.Replies.{Lent, Begins}
 
 pub shortest-lent : {t : Table} → Lent t → shortest t ≡ lent
@@ -49,6 +53,19 @@ module _ (o : List ℕ) {x : Measured} (h : answerOf x ≡ measure o) {at e : �
 
   pub measured-no : {r : Refusal} → x ≡ Refused r → Listed (refusedBy r) at l e out → Listed (reply measured (measure o) .head) at l e out
   measured-no q w = subst (λ (y : Answer ℕ). Listed (reply measured y .head) at l e out) (ap answerOf (sym q) ∙ h) w
+
+-- ---- a row that is asked
+
+module _ (o : List ℕ) {x : Query} (h : told x ≡ outcome o) {at e : ℕ} {l out : List ℕ} where
+  pub query-value : {v z : ℤ} → x ≡ queries.Value v → z ≡ v → Listed (accepted (z ∷ [])) at l e out → Listed (queryText (outcome o)) at l e out
+  query-value {v} q j w =
+      subst (λ (y : Outcome). Listed (queryText y) at l e out) (ap told (sym q) ∙ h) (subst (λ (z : ℤ). Listed (accepted (z ∷ [])) at l e out) j w)
+
+  pub query-no : {r : Refusal} → x ≡ queries.Refused r → Listed (refusedBy r) at l e out → Listed (queryText (outcome o)) at l e out
+  query-no q w = subst (λ (y : Outcome). Listed (queryText y) at l e out) (ap told (sym q) ∙ h) w
+
+  pub query-bad : x ≡ queries.Malformed → Listed bad at l e out → Listed (queryText (outcome o)) at l e out
+  query-bad q w = subst (λ (y : Outcome). Listed (queryText y) at l e out) (ap told (sym q) ∙ h) w
 
 -- ---- a message
 

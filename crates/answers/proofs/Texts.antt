@@ -17,7 +17,7 @@ use Rattle.format.specs.Writing.{Table, rowAt, tabled}
 use Rattle.integer.specs.Writes.{Room, Wrote}
 use Rattle.format.specs.Rows.{Sized}
 use Rattle.text.specs.Text.{others}
-use Rattle.text.proofs.Decimal.{digits-few, count-length, signed-length}
+use Rattle.text.proofs.Decimal.{digits-few, count-length, decimal-length, signed-length}
 use Rattle.text.proofs.Lengths.{row-length}
 use Rattle.text.proofs.Lines.{numbers-none, numbers-more, others-same}
 use Rattle.text.proofs.Signs.{wide}
@@ -78,11 +78,18 @@ module _ (z : ℤ) (n : ℕ) {at : ℕ} {l : List ℕ} (h : Room (accepted (z �
   pub framed-begun : Left (accepted (z ∷ pos n ∷ [])) at l (decimal z ++ (number (pos n) ++ [])) (at + 3) (set (set (set l at 0x6F) (at + 1) 0x6B) (at + 2) 0x20)
   framed-begun = let three : at + 2 + 1 ≡ at + 3 = omega arith in rw three at (left-one (letters (framed-parts z n) h) refl)
 
+pub value-begun : (z : ℤ) {at : ℕ} {l : List ℕ} → Room (accepted (z ∷ [])) at l
+    → Left (accepted (z ∷ [])) at l (decimal z ++ []) (at + 3) (set (set (set l at 0x6F) (at + 1) 0x6B) (at + 2) 0x20)
+value-begun z {at} h = let three : at + 2 + 1 ≡ at + 3 = omega arith in rw three at (left-one (letters (ok-parts z) h) refl)
+
 ok-length : (z : ℤ) → length (accepted (z ∷ [])) ≡ length (decimal z) + 3
 ok-length z = ap length (ok-parts z) ∙ omega (arith, length-append (decimal z) [])
 
 pub ok-short : (n : ℕ) → n < 2 ^ 64 → length (accepted (pos n ∷ [])) ≤ 64
 ok-short n h = omega (arith, ok-length (pos n), count-length n h)
+
+pub value-short : (z : ℤ) → mag z < 2 ^ 63 → length (accepted (z ∷ [])) ≤ 64
+value-short z h = omega (arith, ok-length z, decimal-length z h)
 
 pub framed-short : (z : ℤ) (n : ℕ) → mag z < 2 ^ 31 → n < 2 ^ 64 → length (accepted (z ∷ pos n ∷ [])) ≤ 64
 framed-short z n h g =

@@ -11,6 +11,8 @@ use Rattle.format.specs.declared.Row.{Row}
 use Rattle.format.specs.Desk.{allDigits, octetsOf, decimal, blank, feed, printed, lineText}
 use Rattle.format.specs.Message.{Answer, ok, refused, measure, readMessage, readFrame}
 use Rattle.text.specs.Text.{others}
+use Rattle.queries.specs.Queries as queries
+use Rattle.queries.specs.Queries.{Outcome, outcome}
 
 -- ---- answers
 
@@ -55,6 +57,10 @@ reply f (refused r) = alone (refusedBy r)
 abbrev pub measured : ℕ → Reply
 measured n = alone (accepted (pos n ∷ []))
 
+-- "ok VALUE"
+abbrev pub valued : ℤ → Reply
+valued z = alone (accepted (z ∷ []))
+
 -- "ok ROWS" and the rows
 abbrev pub messageRows : List Row → Reply
 messageRows rs = record { head = accepted (pos (length rs) ∷ []); rows = rs }
@@ -73,6 +79,12 @@ slash b = cond (eqb b 0x0A) 0x2F b
 abbrev pub deskText : List ℕ → List ℕ
 deskText o =
     cond (eqb (getD o (length o - 1) 0) 0x0A) (lineText (take (length o - 1) o)) (printed (refused (refusal 17 0)))
+
+-- ---- a row that is asked
+
+abbrev pub queryText : Outcome → List ℕ
+queryText (queries.answer a) = reply valued a .head
+queryText queries.malformed = bad
 
 -- ---- cases
 
@@ -109,9 +121,13 @@ abbrev pub fieldReply : ℕ → Field → Reply
 fieldReply k (some o) = octetsReply k o
 fieldReply k malformed = alone bad
 
+-- "A" asks a row; the others have a field of octets
+abbrev pub kindReply : ℕ → List ℕ → Reply
+kindReply k l = cond (eqb k 0x41) (alone (queryText (outcome l))) (fieldReply k (fieldOf l))
+
 -- a letter, a blank, and what follows
 abbrev pub caseReply : List ℕ → Reply
-caseReply l = cond (ltb (length l) 2) (alone bad) (cond (eqb (getD l 1 0) 0x20) (fieldReply (getD l 0 0) (fieldOf (drop 2 l))) (alone bad))
+caseReply l = cond (ltb (length l) 2) (alone bad) (cond (eqb (getD l 1 0) 0x20) (kindReply (getD l 0 0) (drop 2 l)) (alone bad))
 
 -- the line that answers a case
 abbrev pub caseText : List ℕ → List ℕ

@@ -10,12 +10,14 @@ ghost use Rattle.integer.specs.Writes.{Room, Wrote};
 ghost use Rattle.text.specs.Text.{others};
 ghost use Rattle.fill.specs.Columns.{columns, Roomy};
 ghost use Rattle.listing.specs.Listing.{Listed};
-ghost use Rattle.answers.specs.Cases.{spaced, rowPart, bad, accepted, refusedBy, reply, measured, messageRows, frameRows, slash, deskText, lent, aloneText, octetsReply, caseReply};
-ghost use Rattle.answers.specs.Fields.{FieldRead, CaseRead};
+ghost use Rattle.answers.specs.Cases.{spaced, rowPart, bad, accepted, refusedBy, reply, measured, messageRows, frameRows, slash, deskText, queryText, lent, aloneText, octetsReply, caseReply};
+ghost use Rattle.answers.specs.Fields.{FieldRead, CaseRead, asksRow, plainText};
+ghost use Rattle.queries.specs.Queries.{outcome};
 ghost use Rattle.answers.specs.Replies.{Lent, Begins, PartsFit, PartsPut, SlashesPut};
 use format::Row;
 use frame::Framed;
 use measure::Measured;
+use queries::Query;
 use reading::Refusal;
 use text::Line;
 
@@ -66,6 +68,17 @@ fn put_ok(out: &mut [u8], at: usize, n: u64) -> usize
     out[at] = b'o';
     out[at + 1] = b'k';
     put_count(out, at + 2, n)
+}
+
+// Writes a row's value.
+fn put_value(out: &mut [u8], at: usize, v: i64) -> usize
+    requires { ⌜ at + 32768 ≤ length (now out) ⌝ }
+    ensures { λ r. ⌜ Listed (accepted (v ∷ [])) at (now (out .entry)) r (now (out .exit)) ⌝ }
+{
+    out[at] = b'o';
+    out[at + 1] = b'k';
+    out[at + 2] = b' ';
+    text::put_number(out, at + 3, v)
 }
 
 // Writes the beginning of the answer to a frame: its conversation number and its count of rows.
@@ -355,6 +368,42 @@ fn begin_desk(src: &[u8], out: &mut [u8], at: usize) -> usize
     end
 }
 
+// Asking a row.
+fn begin_query(fields: &[u8], out: &mut [u8], at: usize) -> usize
+    requires { ⌜ at + 32768 ≤ length (now out) ⌝ }
+    ensures { λ r. ⌜ Listed (queryText (outcome (now (fields .entry)))) at (now (out .entry)) r (now (out .exit)) ⌝ }
+{
+    match queries::ask_line(fields) {
+        Query::Value(v) => put_value(out, at, v),
+        Query::Refused(r) => put_no(out, at, r),
+        Query::Malformed => put_bad(out, at),
+    }
+}
+
+// Whether a case asks a row.
+fn asks_row(line: &[u8]) -> bool
+    ensures { λ r. ⌜ r ≡ asksRow (now (line .entry)) ⌝ }
+{
+    if line.len() < 2 {
+        return false;
+    }
+    if line[0] != b'A' {
+        return false;
+    }
+    line[1] == b' '
+}
+
+// The answer to a case that has no field of octets: it asks a row, or it is malformed.
+fn begin_plain(line: &[u8], out: &mut [u8], at: usize) -> usize
+    requires { ⌜ at + 32768 ≤ length (now out) ⌝ }
+    ensures { λ r. ⌜ Listed (plainText (now (line .entry))) at (now (out .entry)) r (now (out .exit)) ⌝ }
+{
+    if asks_row(line) {
+        return begin_query(&line[2..], out, at);
+    }
+    put_bad(out, at)
+}
+
 // The answer to a case that has no rows, by its kind.
 fn begin_alone(kind: u8, src: &[u8], out: &mut [u8], at: usize) -> usize
     requires { ⌜ at + 32768 ≤ length (now out) ⌝ }
@@ -429,11 +478,14 @@ fn begin_octets(
     }
 }
 
-// Reads the field of a case: writes its octets at the front.
+// Reads the field of octets of a case: writes them at the front.
 fn case_octets(line: &[u8], work: &mut [u8]) -> Line
     requires { ⌜ length (now line) ≤ 2 * length (now work) ⌝ }
     ensures { λ r. ⌜ CaseRead (now (line .entry)) r (now (work .exit)) ⌝ }
 {
+    if asks_row(line) {
+        return Line::Not;
+    }
     if line.len() < 2 {
         return Line::Not;
     }
@@ -465,7 +517,7 @@ pub fn begin_line(
 {
     match case_octets(line, work) {
         Line::Not => Begun {
-            end: put_bad(out, at),
+            end: begin_plain(line, out, at),
             rows: 0,
         },
         Line::Octets(n) => begin_octets(

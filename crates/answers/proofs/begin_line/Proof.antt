@@ -9,7 +9,7 @@ use Rattle.answers.proofs.begin_line.Reads as reads
 use Rattle.answers.proofs.begin_line.Lts as lts
 use Rattle.answers.proofs.begin_octets.Reads as begin-octets-reads
 use Rattle.answers.proofs.case_octets.Reads as case-octets-reads
-use Rattle.answers.proofs.put_bad.Reads as put-bad-reads
+use Rattle.answers.proofs.begin_plain.Reads as begin-plain-reads
 
 -- src/lib.rt:466:11
 case-octets-requires : tie.Need-case-octets-requires
@@ -20,8 +20,8 @@ enum-told : tie.Need-enum-told
 enum-told c = search needs
 
 -- src/lib.rt:468:18
-put-bad-requires : tie.Need-put-bad-requires
-put-bad-requires c κs = c .before .before .before .before .before .before .before .before .before .before .before .before .before .before .before .before .pre .2
+begin-plain-requires : tie.Need-begin-plain-requires
+begin-plain-requires c κs = c .before .before .before .before .before .before .before .before .before .before .before .before .before .before .before .before .pre .2
 
 -- src/lib.rt:471:22
 enum-known-n : tie.Need-enum-known-n
@@ -53,7 +53,7 @@ same-length-2 c = search needs
 
 -- src/lib.rt:447:1
 returns : tie.Need-returns
-returns c = begins-same (rw (c .before .before .before .before .enum-told .given .1) at (c .before .before .before .before .before .before .before .before .case-octets .ensures)) (begins-alone _ (c .before .before .put-bad .ensures))
+returns c = begins-same (rw (c .before .before .before .before .enum-told .given .1) at (c .before .before .before .before .before .before .before .before .case-octets .ensures)) (begins-alone _ (c .before .before .begin-plain .ensures))
 
 -- src/lib.rt:447:1
 same-length-3 : tie.Need-same-length-3
@@ -113,7 +113,7 @@ begin-line-spec =
     (tie.spec
     case-octets-requires
     enum-told
-    put-bad-requires
+    begin-plain-requires
     enum-known-n
     shared-slice-read-begin-octets
     slice-reshare-prefix-begin-octets

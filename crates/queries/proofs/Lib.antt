@@ -1,0 +1,4 @@
+pub mod Numbers
+pub mod Split
+pub mod Words
+pub mod Outcomes
