@@ -197,7 +197,10 @@ fn moment_data(src: &[u8], at: usize, which: Which) -> Data
         Which::Date => Data::Holder(plain(0, at), decide::alike(Form::Bare(-2), 3, false)),
         _ => match scalar::moment_past(src, at, which) {
             Moment::Unfit(_) => Data::Unread,
-            Moment::Parts(_, n) => Data::Holder(plain(0, at), decide::alike(Form::Bare(-2), n, false)),
+            Moment::Parts(_, n) => Data::Holder(
+                plain(0, at),
+                decide::alike(Form::Bare(-2), n, false),
+            ),
         },
     }
 }

@@ -2,6 +2,7 @@ use native.Mathlib.Omega.{arith}
 use Rattle.decide.proofs.Gates.{low-indexed, low-counted}
 use Rattle.decide.proofs.low_after.Statement.{statement}
 use Rattle.decide.proofs.low_after.Tie as tie
+
 -- src/lib.rt:329:16
 add-result : tie.Need-add-result
 add-result c = record { fits = omega (arith, low-indexed (c .before .args .label) (c .before .args .low) (c .if1 .taken), c .before .pre) }

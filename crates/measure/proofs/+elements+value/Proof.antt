@@ -1,5 +1,4 @@
 use borrow.Author.Needs.{needs}
-
 use mathlib.Core.Path.{refl, sym, _∙_}
 use Prim.Native.Nat.{_+_, _-_, _*_}
 use Rattle.measure.proofs.Cycle.{Turning, turning-first, turning-can-read, turning-again, turning-less, low-fits, held-halted, held-ended, held-stopped, can-end, value-deep, value-refused, value-single, value-nested, value-can-hold, rises, sinks, some-level, rows-fit, parts-fit}
