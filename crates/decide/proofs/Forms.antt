@@ -1,18 +1,20 @@
 -- How values stand, as the code decides it.
 use mathlib.Core.Path.{_≡_, refl, sym, ap, subst, _∙_}
-use mathlib.Core.Bool.{Bool, true, false}
+use mathlib.Core.Bool.{Bool, true, false, cond}
 use mathlib.Core.List.{List, [], _∷_}
-use Prim.Native.Nat.{ℕ, _^_, _<_, _≤_}
+use Prim.Native.Nat.{ℕ, suc, _%_, _^_, _<_, _≤_}
 use native.Mathlib.Omega.{arith}
 use lib.ListN.{length}
+use lib.Dec.{eqb}
 use lib.IntN.{ℤ, pos}
 use lib.Signed.{mag}
+use borrow.Author.Tests.{eqb-true, eqb-false}
 use types.Run.{OneOf, miss}
 use denote.Enum.Declared.{tagOf}
 use mir.Syntax.{w32}
 use mir.Val.{toZ, ofZ}
 use Rattle.reading.specs.declared.Refusal.{Refusal}
-use Rattle.reading.specs.Reading.{got, stop, stand, return}
+use Rattle.reading.specs.Reading.{stand, return}
 use Rattle.integer.specs.declared.Read32.{Read32}
 use Rattle.integer.specs.declared.Read32.the-variants.{Int32, Refused32}
 use Rattle.integer.specs.Answers.{out32, past32, Reads32}
@@ -26,7 +28,7 @@ use Rattle.decide.proofs.Form as F
 use Rattle.decide.specs.declared.Typed.{Typed}
 use Rattle.decide.specs.declared.Typed.the-variants.{Standing, Untyped}
 use Rattle.decide.specs.Elements.{ElementIs, ElementAt, TypeIs, TypeAt}
-use Rattle.decide.specs.Forms.{IdentifierIs, IdentifierAt, TypedIs, pastTyped, TypedAt}
+use Rattle.decide.specs.Forms.{IdentifierIs, IdentifierAt, pastTyped, TypedAt, turn}
 
 -- ---- an element type, where one stands
 
@@ -66,3 +68,19 @@ typed-else (Bare t) h i = absurd (miss not-bare 2 tt h)
 
 pub typed-bare : {o : List ℕ} {form : Form} {at : ℕ} {t : ℤ} → form ≡ Bare t → mag t < 2 ^ 31 → at ≤ length o → TypedAt o form at (Standing at 0 (toZ w32 (ofZ w32 t)))
 typed-bare {t = t} e f h = rw (e, held {w = w32} {z = t} (record { sfits = f })) record { is = (refl, refl, refl); past = (omega arith, h) }
+
+-- ---- by turns
+
+pub turn-next : {A : Type 0} (f g : A) (i : ℕ) → turn f g (suc i) ≡ turn g f i
+turn-next {A} f g i = by (eqb (i % 2) 0) refl
+  where
+    by : (b : Bool) → eqb (i % 2) 0 ≡ b → turn f g (suc i) ≡ turn g f i
+    by true e = let z = eqb-true (i % 2) 0 e in let o : suc i % 2 ≡ 1 = omega arith in rw (o, z)
+    by false e = let z = eqb-false (i % 2) 0 e in let n : i % 2 ≡ 1 = omega arith in let o : suc i % 2 ≡ 0 = omega arith in rw (o, n)
+
+pub turn-same : {A : Type 0} (f : A) (i : ℕ) → turn f f i ≡ f
+turn-same {A} f i = by (eqb (i % 2) 0)
+  where
+    by : (b : Bool) → cond b f f ≡ f
+    by true = refl
+    by false = refl

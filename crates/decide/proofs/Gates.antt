@@ -6,10 +6,9 @@ use Prim.Native.Nat.{ℕ, _+_, _<_, _≤_}
 use native.Mathlib.Omega.{arith}
 use native.Mathlib.Numerals.{add-one}
 use lib.ListN.{length}
-use lib.IntN.{ℤ}
 use borrow.Author.Tests.{le-leb, lt-leb, le-ltb, lt-ltb}
 use Rattle.reading.specs.declared.Refusal.{Refusal}
-use Rattle.reading.specs.Reading.{Env, Out, refusal, stand}
+use Rattle.reading.specs.Reading.{Env, refusal, stand}
 use Rattle.integer.specs.declared.Signed.{Signed}
 use Rattle.integer.specs.declared.Signed.the-variants.{Positive, Negative, Faulty}
 use Rattle.integer.specs.Answers.{outSigned, pastSigned, ReadsSigned}

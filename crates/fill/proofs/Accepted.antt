@@ -19,6 +19,7 @@ use Rattle.decide.specs.declared.Form.the-variants.{Whole, Named, Bare}
 use Rattle.decide.specs.declared.Nest.{Nest}
 use Rattle.decide.specs.Forms.{formOf, nestWith, turn}
 use Rattle.decide.specs.Gates.{nextLow}
+use Rattle.decide.proofs.Forms.{turn-same, turn-next}
 use Rattle.fill.specs.Numbers.{Stands}
 use Rattle.fill.specs.Rows.{several, nestBy, nestOf, Dated}
 use Rattle.fill.specs.Filling.{Fillable}
@@ -59,7 +60,7 @@ form-turn a b f i p q = by (eqb (i % 2) 0)
     by false = q
 
 turn-two : (f g : Form) (i : ℕ) → turn f g (suc (suc i)) ≡ turn f g i
-turn-two f g i = let e : suc (suc i) % 2 ≡ i % 2 = omega arith in rw e
+turn-two f g i = turn-next f g (suc i) ∙ turn-next g f i
 
 abbrev isParts : Holds → Bool
 isParts nothing = false
@@ -83,13 +84,6 @@ rule-matches h cs g one e p = (refl, refl, refl, refl, tt, tt)
 rule-matches h cs g (parts d) e p = let z : _≡_ {A = ℕ} 0 1 = cc in absurd (omega arith)
 
 -- ---- the integers of a date or time
-
-turn-same : (f : Form) (i : ℕ) → turn f f i ≡ f
-turn-same f i = by (eqb (i % 2) 0)
-  where
-    by : (b : Bool) → cond b f f ≡ f
-    by true = refl
-    by false = refl
 
 pieces-fillable : (d i : ℕ) (l : List ℤ) (n : ℕ) → i + length l ≡ n → Ints l → Fillable (suc d) (nestWith false false (Bare (negsuc 1)) (Bare (negsuc 1)) n) i (pieces i l)
 unfolding Fillable pieces Ints kindOf nestOf

@@ -1,6 +1,6 @@
 -- The values of a container filled in, turn by turn.
 use mathlib.Core.Path.{_≡_, refl, sym, ap, subst, ap₂, _∙_}
-use mathlib.Core.Bool.{Bool, true, false}
+use mathlib.Core.Bool.{Bool, false}
 use mathlib.Core.List.{List, _++_, append-nil, append-assoc}
 use Prim.Native.Nat.{ℕ, zero, suc, _+_, _-_, _<_, _≤_}
 use native.Mathlib.Omega.{arith}

@@ -1,15 +1,15 @@
 -- What comes next in a container, in accepted octets.
-use mathlib.Core.Path.{_≡_, sym, ap, ap₂, _∙_}
+use mathlib.Core.Path.{_≡_, ap, ap₂, _∙_}
 use mathlib.Core.Bool.{Bool, true, false}
 use mathlib.Core.List.{List}
 use Prim.Native.Nat.{ℕ, _+_, _<_, _≤_}
 use native.Mathlib.Omega.{arith}
 use native.Mathlib.Nat.{add-zero}
 use lib.ListN.{length}
-use lib.IntN.{ℤ, pos, negsuc}
+use lib.IntN.{pos, negsuc}
 use borrow.Author.Tests.{le-leb, le-ltb, lt-ltb}
 use Rattle.reading.specs.Reading.{State, got, stand}
-use Rattle.integer.specs.Packed.{wide32, spellInt}
+use Rattle.integer.specs.Packed.{wide32}
 use Rattle.integer.proofs.Laws.{integer-does, enough32}
 use Rattle.format.specs.Spelling.{index}
 use Rattle.decide.specs.declared.Next.{Next}

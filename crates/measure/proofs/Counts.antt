@@ -1,16 +1,17 @@
 -- Counting rows while reading: one turn of the loop over a container.
 use mathlib.Core.Path.{_≡_, refl, sym, ap, ap₂, _∙_}
 use mathlib.Core.Bool.{Bool, true, false, cond}
-use Prim.Native.Nat.{ℕ, suc, _+_, _-_, _%_, _≤_}
+use Prim.Native.Nat.{ℕ, suc, _+_, _-_, _≤_}
 use native.Mathlib.Omega.{arith}
 use native.Mathlib.Nat.{add-zero}
-use lib.Dec.{ltb, eqb}
-use borrow.Author.Tests.{ltb-true, ltb-false, eqb-true, eqb-false}
+use lib.Dec.{ltb}
+use borrow.Author.Tests.{ltb-true, ltb-false}
 use Rattle.reading.specs.Reading.{State, Out, got, stop, Reader, follow, _>>=_, return}
 use Rattle.integer.specs.Packed.{wide32, integer}
 use Rattle.format.specs.Values.{Value, Children, childOf, Form, Rule, counted, rising, label, Inner, each, children}
 use Rattle.format.specs.Rows.{count}
 use Rattle.decide.specs.Forms.{turn}
+use Rattle.decide.proofs.Forms.{turn-same, turn-next}
 use Rattle.decide.specs.Gates.{Gate, halt, ends, go, indexGate, gate, nextLow}
 use Rattle.measure.specs.Tally.{plus, valueRows, childRows, onward, rest}
 use Rattle.measure.specs.Plans.{OneForm}
@@ -49,22 +50,6 @@ plus-zero p s = by (p s)
     by : (x : Out ℕ) → follow x (λ m. return (0 + m)) ≡ x
     by (got n t) = ap (λ (k : ℕ). got k t) (omega arith)
     by (stop r) = refl
-
--- ---- by turns
-
-pub turn-next : {A : Type 0} (f g : A) (i : ℕ) → turn f g (suc i) ≡ turn g f i
-turn-next {A} f g i = by (eqb (i % 2) 0) refl
-  where
-    by : (b : Bool) → eqb (i % 2) 0 ≡ b → turn f g (suc i) ≡ turn g f i
-    by true e = let z = eqb-true (i % 2) 0 e in let o : suc i % 2 ≡ 1 = omega arith in rw (o, z)
-    by false e = let z = eqb-false (i % 2) 0 e in let n : i % 2 ≡ 1 = omega arith in let o : suc i % 2 ≡ 0 = omega arith in rw (o, n)
-
-pub turn-same : {A : Type 0} (f : A) (i : ℕ) → turn f f i ≡ f
-turn-same {A} f i = by (eqb (i % 2) 0)
-  where
-    by : (b : Bool) → cond b f f ≡ f
-    by true = refl
-    by false = refl
 
 -- ---- what a container still expects, by what comes next
 

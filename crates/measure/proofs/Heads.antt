@@ -1,5 +1,5 @@
 -- The type of a value, as the code finds it.
-use mathlib.Core.Path.{_≡_, refl, sym, ap, subst, _∙_}
+use mathlib.Core.Path.{_≡_, refl, sym, ap, _∙_}
 use mathlib.Core.Bool.{Bool, true, false, _&&_}
 use mathlib.Core.List.{List}
 use mathlib.Core.Logic.{_⊎_, inl, inr}
@@ -9,7 +9,7 @@ use lib.ListN.{length}
 use lib.IntN.{ℤ, negsuc}
 use lib.Signed.{ltZ}
 use Rattle.reading.specs.declared.Refusal.{Refusal}
-use Rattle.reading.specs.Reading.{Env, State, Out, got, stop, stand, follow, _>>=_, here, require}
+use Rattle.reading.specs.Reading.{Env, State, Out, stop, stand, follow, _>>=_, here, require}
 use Rattle.integer.specs.Packed.{wide32, integer}
 use Rattle.format.specs.Types.{kindOf}
 use Rattle.format.specs.Values.{whole, bare, Inner, each}

@@ -7,7 +7,6 @@ use lib.Dec.{ltb, leb}
 use lib.IntN.{ℤ, negsuc}
 use lib.Signed.{mag, nonNeg}
 use borrow.Author.Tests.{ltb-true, leb-true}
-use Rattle.reading.specs.declared.Refusal.{Refusal}
 use Rattle.reading.specs.Reading.{State, Out, got, stop, refusal, Reader, follow, _>>=_, return, require, either, here}
 use Rattle.integer.specs.Packed.{wide32, integer}
 use Rattle.format.specs.Data.{eqZ}

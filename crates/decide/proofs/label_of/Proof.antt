@@ -1,4 +1,3 @@
-use borrow.Author.Needs.{needs}
 use Rattle.decide.proofs.label_of.Statement.{statement}
 use Rattle.decide.proofs.label_of.Tie as tie
 use Rattle.decide.proofs.label_of.Reads as reads

@@ -1,6 +1,6 @@
 use mir.Syntax.{w32}
 use Rattle.integer.proofs.Signs.{held}
-use Rattle.fill.proofs.Numbers.{amount-past, elementary-at}
+use Rattle.fill.proofs.Numbers.{elementary-at}
 use Rattle.fill.proofs.Fores.{element-past}
 use Rattle.fill.proofs.Contained.{holder-untyped, holder-untyped-2, holder-unnumbered, holder-read}
 use borrow.Author.Needs.{needs}
