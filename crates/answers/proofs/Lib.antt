@@ -1,4 +1,2 @@
-pub mod Texts
-pub mod Fields
+pub mod Parts
 pub mod Replies
-pub mod Slashes

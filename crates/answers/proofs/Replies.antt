@@ -1,6 +1,6 @@
 -- What is read into the columns, and the answer that begins with it.
 use mathlib.Core.Path.{_≡_, refl, sym, ap, subst, _∙_}
-use mathlib.Core.List.{List, [], _∷_, _++_, map}
+use mathlib.Core.List.{List, [], _∷_, _++_}
 use Prim.Native.Nat.{ℕ}
 use native.Mathlib.Omega.{arith}
 use lib.ListN.{length}
@@ -9,7 +9,7 @@ use borrow.Author.Tests.{eq-eqb, ne-eqb}
 use Rattle.reading.specs.declared.Refusal.{Refusal}
 use Rattle.format.specs.declared.Row.{Row}
 use Rattle.format.specs.Desk.{feed}
-use Rattle.format.specs.Message.{Answer, ok, refused, then, measure, readMessage, readFrame}
+use Rattle.format.specs.Message.{Answer, ok, refused, then, readMessage, readFrame}
 use Rattle.format.specs.Writing.{Table, tabled}
 use Rattle.fill.specs.Columns.{Roomy, Filled}
 use Rattle.measure.specs.declared.Measured.{Measured}
@@ -22,14 +22,10 @@ use Rattle.frame.specs.declared.Framed.{Framed}
 use Rattle.frame.specs.declared.Framed.the-variants as framed
 use Rattle.frame.specs.Frames.{FrameRead}
 use Rattle.records.proofs.Records.{filled-rows, filled-room}
-use Rattle.queries.specs.declared.Query.{Query}
-use Rattle.queries.specs.declared.Query.the-variants as queries
-use Rattle.queries.specs.Queries.{Outcome, outcome}
-use Rattle.queries.specs.Reads.{told}
 use Rattle.listing.specs.Listing.{Listed}
 use Rattle.listing.proofs.Listing.{frame-refused, frame-given, frame-rows, frame-room}
+use Rattle.replies.specs.Cases.{rowParts, Reply, alone, accepted, refusedBy, reply, messageRows, frameRows, lent, aloneText, octetsReply, caseReply, caseText}
 use Rattle.answers.specs.declared.Begun.{Begun}
-use Rattle.answers.specs.Cases.{rowParts, Reply, alone, bad, accepted, refusedBy, reply, measured, messageRows, frameRows, slash, deskText, queryText, lent, aloneText, octetsReply, caseReply, caseText}
 use Rattle.answers.specs.Replies.{Lent, Begins}
 
 pub shortest-lent : {t : Table} → Lent t → shortest t ≡ lent
@@ -44,28 +40,6 @@ begins-alone t w = record {
   same = refl;
   room = record { ty-room = omega arith; own-room = omega arith; label-room = omega arith; number-room = omega arith; first-room = omega arith; second-room = omega arith; place-room = omega arith; below-room = omega arith; start-room = omega arith; end-room = omega arith };
 }
-
--- ---- a measured value
-
-module _ (o : List ℕ) {x : Measured} (h : answerOf x ≡ measure o) {at e : ℕ} {l out : List ℕ} where
-  pub measured-ok : {n : ℕ} → x ≡ Amount n → Listed (accepted (pos n ∷ [])) at l e out → Listed (reply measured (measure o) .head) at l e out
-  measured-ok q w = subst (λ (y : Answer ℕ). Listed (reply measured y .head) at l e out) (ap answerOf (sym q) ∙ h) w
-
-  pub measured-no : {r : Refusal} → x ≡ Refused r → Listed (refusedBy r) at l e out → Listed (reply measured (measure o) .head) at l e out
-  measured-no q w = subst (λ (y : Answer ℕ). Listed (reply measured y .head) at l e out) (ap answerOf (sym q) ∙ h) w
-
--- ---- a row that is asked
-
-module _ (o : List ℕ) {x : Query} (h : told x ≡ outcome o) {at e : ℕ} {l out : List ℕ} where
-  pub query-value : {v z : ℤ} → x ≡ queries.Value v → z ≡ v → Listed (accepted (z ∷ [])) at l e out → Listed (queryText (outcome o)) at l e out
-  query-value {v} q j w =
-      subst (λ (y : Outcome). Listed (queryText y) at l e out) (ap told (sym q) ∙ h) (subst (λ (z : ℤ). Listed (accepted (z ∷ [])) at l e out) j w)
-
-  pub query-no : {r : Refusal} → x ≡ queries.Refused r → Listed (refusedBy r) at l e out → Listed (queryText (outcome o)) at l e out
-  query-no q w = subst (λ (y : Outcome). Listed (queryText y) at l e out) (ap told (sym q) ∙ h) w
-
-  pub query-bad : x ≡ queries.Malformed → Listed bad at l e out → Listed (queryText (outcome o)) at l e out
-  query-bad q w = subst (λ (y : Outcome). Listed (queryText y) at l e out) (ap told (sym q) ∙ h) w
 
 -- ---- a message
 
@@ -122,18 +96,6 @@ pub begins-same : {a b : Reply} {at : ℕ} {l : List ℕ} {r : Begun} {out : Lis
 begins-same {at = at} {l} {r} {out} {t} e w = subst (λ (a : Reply). Begins a at l r out t) (sym e) w
 
 module _ (k : ℕ) (o : List ℕ) where
-  pub alone-measure : k ≡ 0x4C → aloneText k o ≡ reply measured (measure o) .head
-  unfolding aloneText
-  alone-measure e = rw (eq-eqb k 0x4C e)
-
-  pub alone-desk : (k ≡ 0x4C → ⊥) → k ≡ 0x44 → aloneText k o ≡ map slash (deskText o)
-  unfolding aloneText
-  alone-desk n e = rw (ne-eqb k 0x4C n, eq-eqb k 0x44 e)
-
-  pub alone-bad : (k ≡ 0x4C → ⊥) → (k ≡ 0x44 → ⊥) → aloneText k o ≡ bad
-  unfolding aloneText
-  alone-bad n m = rw (ne-eqb k 0x4C n, ne-eqb k 0x44 m)
-
   pub octets-message : k ≡ 0x4D → octetsReply k o ≡ reply messageRows (readMessage lent o)
   unfolding octetsReply
   octets-message e = rw (eq-eqb k 0x4D e)

@@ -1,3 +1,1 @@
-pub mod Cases
-pub mod Fields
 pub mod Replies

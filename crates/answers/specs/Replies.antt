@@ -1,14 +1,14 @@
 -- Answers written into a lent slice, in parts.
 use mathlib.Core.Path.{_≡_}
-use mathlib.Core.List.{List, map}
+use mathlib.Core.List.{List}
 use Prim.Native.Nat.{ℕ, _+_, _*_, _≤_}
 use lib.ListN.{length}
 use Rattle.format.specs.Writing.{Table, tabled}
 use Rattle.fill.specs.Columns.{Roomy}
 use Rattle.integer.specs.Writes.{Wrote}
 use Rattle.listing.specs.Listing.{Listed}
+use Rattle.replies.specs.Cases.{Reply, rowParts, lent}
 use Rattle.answers.specs.declared.Begun.{Begun}
-use Rattle.answers.specs.Cases.{Reply, rowParts, slash, lent}
 
 -- the columns that are lent
 pub record Lent (t : Table) : Type 0 where
@@ -37,7 +37,3 @@ pub record PartsFit (at n : ℕ) (out : List ℕ) : Type 0 where
 pub record PartsPut (t : Table) (k n at : ℕ) (l : List ℕ) (next : ℕ) (out : List ℕ) : Type 0 where
   pub wrote : Wrote (rowParts (tabled t k n)) at l next out
   pub few : next ≤ at + 118 * n
-
--- a slash for each line feed of what was written
-pub record SlashesPut (at end : ℕ) (out after : List ℕ) : Type 0 where
-  pub put : (v l : List ℕ) → Wrote v at l end out → Wrote (map slash v) at l end after

@@ -6,8 +6,8 @@ use Rattle.answers.proofs.begin_frame.Statement.{statement}
 use Rattle.answers.proofs.begin_frame.Tie as tie
 use Rattle.answers.proofs.begin_frame.Reads as reads
 use Rattle.answers.proofs.begin_frame.Lts as lts
-use Rattle.answers.proofs.put_framed.Reads as put-framed-reads
-use Rattle.answers.proofs.put_no.Reads as put-no-reads
+use Rattle.replies.proofs.put_framed.Reads as put-framed-reads
+use Rattle.replies.proofs.put_no.Reads as put-no-reads
 use Rattle.frame.proofs.read_frame.Reads as read-frame-reads
 
 -- src/lib.rt:273:11

@@ -8,8 +8,8 @@ use Rattle.answers.proofs.begin_line.Tie as tie
 use Rattle.answers.proofs.begin_line.Reads as reads
 use Rattle.answers.proofs.begin_line.Lts as lts
 use Rattle.answers.proofs.begin_octets.Reads as begin-octets-reads
-use Rattle.answers.proofs.case_octets.Reads as case-octets-reads
-use Rattle.answers.proofs.begin_plain.Reads as begin-plain-reads
+use Rattle.replies.proofs.case_octets.Reads as case-octets-reads
+use Rattle.replies.proofs.begin_plain.Reads as begin-plain-reads
 
 -- src/lib.rt:466:11
 case-octets-requires : tie.Need-case-octets-requires

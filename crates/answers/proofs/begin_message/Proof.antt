@@ -4,8 +4,8 @@ use Rattle.answers.proofs.begin_message.Statement.{statement}
 use Rattle.answers.proofs.begin_message.Tie as tie
 use Rattle.answers.proofs.begin_message.Reads as reads
 use Rattle.answers.proofs.begin_message.Lts as lts
-use Rattle.answers.proofs.put_no.Reads as put-no-reads
-use Rattle.answers.proofs.put_ok.Reads as put-ok-reads
+use Rattle.replies.proofs.put_no.Reads as put-no-reads
+use Rattle.replies.proofs.put_ok.Reads as put-ok-reads
 use Rattle.message.proofs.read_message.Reads as read-message-reads
 
 -- src/lib.rt:230:11

@@ -4,7 +4,7 @@ use Rattle.answers.proofs.begin_octets.Statement.{statement}
 use Rattle.answers.proofs.begin_octets.Tie as tie
 use Rattle.answers.proofs.begin_octets.Reads as reads
 use Rattle.answers.proofs.begin_octets.Lts as lts
-use Rattle.answers.proofs.begin_alone.Reads as begin-alone-reads
+use Rattle.replies.proofs.begin_alone.Reads as begin-alone-reads
 use Rattle.answers.proofs.begin_frame.Reads as begin-frame-reads
 use Rattle.answers.proofs.begin_message.Reads as begin-message-reads
 

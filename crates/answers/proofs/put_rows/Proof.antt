@@ -4,12 +4,12 @@ use Rattle.text.proofs.Writes.{wrote-kept}
 use Rattle.fill.specs.Columns.{columns}
 use Rattle.records.proofs.Records.{row-room}
 use Rattle.answers.specs.Replies.{PartsPut}
-use Rattle.answers.proofs.Texts.{parts-none, part-room, parts-again, parts-all}
+use Rattle.answers.proofs.Parts.{parts-none, part-room, parts-again, parts-all}
 use Rattle.answers.proofs.put_rows.Statement.{statement}
 use Rattle.answers.proofs.put_rows.Tie as tie
 use Rattle.answers.proofs.put_rows.Reads as reads
 use Rattle.answers.proofs.put_rows.Lts as lts
-use Rattle.answers.proofs.put_row.Reads as put-row-reads
+use Rattle.replies.proofs.put_row.Reads as put-row-reads
 use Rattle.records.proofs.row_at.Reads as row-at-reads
 
 abbrev Inv-loop : tie.InvT-loop

@@ -1,0 +1,4 @@
+pub mod Texts
+pub mod Fields
+pub mod Slashes
+pub mod Alone
