@@ -46,15 +46,15 @@ type-on {o} {on} {at} {x} e h = rw e record { is = by x (h .is) }
 -- ---- the type of a value
 
 module _ {o : List ℕ} {at : ℕ} {x : Read32} (reads : Reads32 o at x) where
-  pub identifier-read : {from : ℕ} {t : ℤ} → x ≡ Int32 from t → mag t < 2 ^ 31 → IdentifierAt o at (Standing from 1 (toZ w32 (ofZ w32 t)))
+  pub identifier-read : {from : ℕ} {t : ℤ} → x ≡ Int32 from t → mag t < 2 ^ 31 → IdentifierAt o at (Standing from (toZ w32 (ofZ w32 t)))
   identifier-read {from} {t} q f = let p = subst (past32 o at) q (reads .past) in
-      rw (held {w = w32} {z = t} (record { sfits = f })) record { is = (refl, p .0, p .1, λ e. sym (reads .same e) ∙ ap (out32 o e) q) }
+      rw (held {w = w32} {z = t} (record { sfits = f })) record { is = (p .0, p .1, λ e. sym (reads .same e) ∙ ap (out32 o e) q) }
 
   pub identifier-faulty : {r : Refusal} → x ≡ Refused32 r → IdentifierAt o at (Untyped r)
   identifier-faulty q = record { is = λ e. sym (reads .same e) ∙ ap (out32 o e) q }
 
 past-identifier : (o : List ℕ) (at : ℕ) (x : Typed) → IdentifierIs o at x → pastTyped o at x
-past-identifier o at (Standing from own t) p = (omega arith, p .2)
+past-identifier o at (Standing from t) p = (omega arith, p .1)
 past-identifier o at (Untyped r) p = tt
 
 -- a form that isn't bare, by the positions in `Form`
@@ -66,8 +66,8 @@ typed-else {o} {at} {x} Whole h i = record { is = i .is; past = past-identifier 
 typed-else {o} {at} {x} Named h i = record { is = i .is; past = past-identifier o at x (i .is) }
 typed-else (Bare t) h i = absurd (miss not-bare 2 tt h)
 
-pub typed-bare : {o : List ℕ} {form : Form} {at : ℕ} {t : ℤ} → form ≡ Bare t → mag t < 2 ^ 31 → at ≤ length o → TypedAt o form at (Standing at 0 (toZ w32 (ofZ w32 t)))
-typed-bare {t = t} e f h = rw (e, held {w = w32} {z = t} (record { sfits = f })) record { is = (refl, refl, refl); past = (omega arith, h) }
+pub typed-bare : {o : List ℕ} {form : Form} {at : ℕ} {t : ℤ} → form ≡ Bare t → mag t < 2 ^ 31 → at ≤ length o → TypedAt o form at (Standing at (toZ w32 (ofZ w32 t)))
+typed-bare {t = t} e f h = rw (e, held {w = w32} {z = t} (record { sfits = f })) record { is = (refl, refl); past = (omega arith, h) }
 
 -- ---- by turns
 

@@ -16,11 +16,17 @@ use Rattle.decide.specs.declared.Typed.{Typed}
 use Rattle.decide.specs.declared.Typed.the-variants.{Standing, Untyped}
 use Rattle.decide.specs.declared.Nest.{Nest}
 
+-- 01: "own (1 if its identifier stands in the octets, 0 if bare)"
+abbrev pub ownOf : Form → ℕ
+ownOf Whole = 1
+ownOf Named = 1
+ownOf (Bare t) = 0
+
 -- ---- the type of a value
 
 -- read at a place
 abbrev pub IdentifierIs : List ℕ → ℕ → Typed → Type 0
-IdentifierIs o at (Standing from own t) = (own ≡ 1) × (at < from) × (from ≤ length o) × ((e : Env) → integer wide32 (stand o at e) ≡ got t (stand o from e))
+IdentifierIs o at (Standing from t) = (at < from) × (from ≤ length o) × ((e : Env) → integer wide32 (stand o at e) ≡ got t (stand o from e))
 IdentifierIs o at (Untyped r) = (e : Env) → integer wide32 (stand o at e) ≡ stop r
 
 pub record IdentifierAt (o : List ℕ) (at : ℕ) (r : Typed) : Type 0 where
@@ -28,7 +34,7 @@ pub record IdentifierAt (o : List ℕ) (at : ℕ) (r : Typed) : Type 0 where
 
 -- known, where the value is bare
 abbrev pub BareIs : ℤ → ℕ → Typed → Type 0
-BareIs t at (Standing from own s) = (own ≡ 0) × (from ≡ at) × (s ≡ t)
+BareIs t at (Standing from s) = (from ≡ at) × (s ≡ t)
 BareIs t at (Untyped r) = ⊥
 
 abbrev pub TypedIs : List ℕ → Form → ℕ → Typed → Type 0
@@ -37,7 +43,7 @@ TypedIs o Named at r = IdentifierIs o at r
 TypedIs o (Bare t) at r = BareIs t at r
 
 abbrev pub pastTyped : List ℕ → ℕ → Typed → Type 0
-pastTyped o at (Standing from own t) = (at ≤ from) × (from ≤ length o)
+pastTyped o at (Standing from t) = (at ≤ from) × (from ≤ length o)
 pastTyped o at (Untyped r) = Unit {0}
 
 pub record TypedAt (o : List ℕ) (form : Form) (at : ℕ) (r : Typed) : Type 0 where

@@ -5,7 +5,7 @@ ghost use Rattle.reading.specs.Reading.{refusal};
 ghost use Rattle.format.specs.Values.{label};
 ghost use Rattle.decide.specs.Classes.{bitsOf, ClassOf, mayBeElement};
 ghost use Rattle.decide.specs.Elements.{AmountAt, ElementAt, TypeAt};
-ghost use Rattle.decide.specs.Forms.{IdentifierAt, TypedAt, formOf, alikeNest, nestIn, turn};
+ghost use Rattle.decide.specs.Forms.{ownOf, IdentifierAt, TypedAt, formOf, alikeNest, nestIn, turn};
 ghost use Rattle.decide.specs.Gates.{IndexNext, NextAt, nextLow};
 use integer::Read32;
 use integer::Signed;
@@ -183,9 +183,20 @@ pub enum Form {
     Bare(i32),
 }
 
-// The place of a value's data, 1 if its identifier stands before them, else 0, and its type; or a refusal.
+// 1 if a value's identifier stands before its data, else 0: 01's own.
+pub fn own_of(form: Form) -> u8
+    ensures { λ r. ⌜ r ≡ ownOf form ⌝ }
+{
+    match form {
+        Form::Whole => 1,
+        Form::Named => 1,
+        Form::Bare(_) => 0,
+    }
+}
+
+// The place of a value's data, and its type; or a refusal.
 pub enum Typed {
-    Standing(usize, u8, i32),
+    Standing(usize, i32),
     Untyped(Refusal),
 }
 
@@ -193,7 +204,7 @@ fn identifier_at(src: &[u8], at: usize) -> Typed
     ensures { λ r. ⌜ IdentifierAt (now (src .entry)) at r ⌝ }
 {
     match integer::int32_at(src, at) {
-        Read32::Int32(from, t) => Typed::Standing(from, 1, t),
+        Read32::Int32(from, t) => Typed::Standing(from, t),
         Read32::Refused32(r) => Typed::Untyped(r),
     }
 }
@@ -204,7 +215,7 @@ pub fn typed_at(src: &[u8], form: Form, at: usize) -> Typed
     ensures { λ r. ⌜ TypedAt (now (src .entry)) form at r ⌝ }
 {
     match form {
-        Form::Bare(t) => Typed::Standing(at, 0, t),
+        Form::Bare(t) => Typed::Standing(at, t),
         _ => identifier_at(src, at),
     }
 }

@@ -49,7 +49,7 @@ use Rattle.decide.specs.declared.Form.{Form}
 use Rattle.decide.specs.declared.Form.the-variants.{Whole, Named, Bare}
 use Rattle.decide.specs.declared.Typed.{Typed}
 use Rattle.decide.specs.declared.Typed.the-variants.{Standing, Untyped}
-use Rattle.decide.specs.Forms.{IdentifierIs, TypedIs, TypedAt}
+use Rattle.decide.specs.Forms.{ownOf, IdentifierIs, TypedIs, TypedAt}
 use Rattle.fill.specs.declared.Numbered.the-variants.{Number, Missing}
 use Rattle.fill.specs.Numbers.{Begins, Stands, NumberAt, Implied}
 use Rattle.fill.proofs.Begins.{unnamed, same-place, same-value, read-is, found, not-refused}
@@ -57,20 +57,25 @@ use Rattle.fill.proofs.Begins.{unnamed, same-place, same-value, read-is
 -- ---- types
 
 -- the type of a value that stands in a form
-pub typed-is : {o : List ℕ} {form : Form} {at : ℕ} {x : Typed} → TypedAt o form at x → (h : Head) → Stands form h → Begins o at (identifier h) → x ≡ Standing (at + length (identifier h)) (h .own) (h .ty)
+pub typed-is : {o : List ℕ} {form : Form} {at : ℕ} {x : Typed} → TypedAt o form at x → (h : Head) → Stands form h → Begins o at (identifier h) → x ≡ Standing (at + length (identifier h)) (h .ty)
 typed-is {o} {form} {at} {x} typed h s b = by form x (typed .is) s
   where
-    whole : (y : Typed) → IdentifierIs o at y → h .own ≡ 1 → Int32 (h .ty) → y ≡ Standing (at + length (identifier h)) (h .own) (h .ty)
-    whole (Standing from own t) i a f =
-        let w = found (integer-does wide32 enough32 (h .ty) unnamed f) (subst (Begins o at) (owned h a) b) (sym (i .3 unnamed)) in
-        rw (owned h a, ← w .1, ← w .0, a, i .0)
+    whole : (y : Typed) → IdentifierIs o at y → h .own ≡ 1 → Int32 (h .ty) → y ≡ Standing (at + length (identifier h)) (h .ty)
+    whole (Standing from t) i a f =
+        let w = found (integer-does wide32 enough32 (h .ty) unnamed f) (subst (Begins o at) (owned h a) b) (sym (i .2 unnamed)) in
+        rw (owned h a, ← w .1, ← w .0)
     whole (Untyped r) i a f = absurd (not-refused (integer-does wide32 enough32 (h .ty) unnamed f) (subst (Begins o at) (owned h a) b) (sym (i unnamed)))
 
-    by : (form : Form) (y : Typed) → TypedIs o form at y → Stands form h → y ≡ Standing (at + length (identifier h)) (h .own) (h .ty)
+    by : (form : Form) (y : Typed) → TypedIs o form at y → Stands form h → y ≡ Standing (at + length (identifier h)) (h .ty)
     by Whole y i s = whole y i (s .0) (s .1)
     by Named y i s = whole y i (s .0) (s .1)
-    by (Bare t) (Standing from own u) i s = rw (unowned h (s .0), add-zero, s .0, s .1, i .0, i .1, i .2)
+    by (Bare t) (Standing from u) i s = rw (unowned h (s .0), add-zero, s .1, i .0, i .1)
     by (Bare t) (Untyped r) i s = absurd i
+
+pub own-is : (form : Form) (h : Head) → Stands form h → ownOf form ≡ h .own
+own-is Whole h s = sym (s .0)
+own-is Named h s = sym (s .0)
+own-is (Bare t) h s = sym (s .0)
 
 -- ---- element types, where one stands
 

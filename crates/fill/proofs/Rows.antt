@@ -21,25 +21,22 @@ use Rattle.fill.specs.declared.Data.{Data}
 use Rattle.fill.specs.declared.Data.the-variants.{Leaf, Holder, Unread}
 use Rattle.fill.specs.declared.Found.{Found}
 use Rattle.fill.specs.declared.Found.the-variants.{Leaf as LeafRow, Holder as HolderRow, Unread as NoRow}
-use Rattle.decide.specs.Forms.{pastTyped, TypedAt}
+use Rattle.decide.specs.Forms.{ownOf, pastTyped, TypedAt}
 use Rattle.fill.specs.Numbers.{Begins, Stands}
-use Rattle.fill.proofs.Numbers.{typed-is}
+use Rattle.fill.proofs.Numbers.{typed-is, own-is}
 use Rattle.fill.specs.Rows.{nestBy, nestOf, Dated, foreOf, dataWith, pastFore, pastData, DataOf, frontRow, rowWith, foundBy, pastFound, RowAt}
 use Rattle.fill.proofs.Begins.{begins-left, begins-right, moved}
 
-standing-from : {a b m n : ℕ} {s t : ℤ} → _≡_ {A = Typed} (Standing a m s) (Standing b n t) → a ≡ b
+standing-from : {a b : ℕ} {s t : ℤ} → _≡_ {A = Typed} (Standing a s) (Standing b t) → a ≡ b
 standing-from h = cc
 
-standing-own : {a b m n : ℕ} {s t : ℤ} → _≡_ {A = Typed} (Standing a m s) (Standing b n t) → m ≡ n
-standing-own h = cc
-
-standing-type : {a b m n : ℕ} {s t : ℤ} → _≡_ {A = Typed} (Standing a m s) (Standing b n t) → s ≡ t
+standing-type : {a b : ℕ} {s t : ℤ} → _≡_ {A = Typed} (Standing a s) (Standing b t) → s ≡ t
 standing-type h = cc
 
-untyped : {r : Refusal} {b n : ℕ} {t : ℤ} → _≡_ {A = Typed} (Untyped r) (Standing b n t) → ⊥
+untyped : {r : Refusal} {b : ℕ} {t : ℤ} → _≡_ {A = Typed} (Untyped r) (Standing b t) → ⊥
 untyped h = let z : _≡_ {A = ℕ} 0 1 = cc in omega arith
 
-pub typed-past : {o : List ℕ} {form : Form} {at : ℕ} {x : Typed} {from own : ℕ} {t : ℤ} → TypedAt o form at x → x ≡ Standing from own t → (at ≤ from) × (from ≤ length o)
+pub typed-past : {o : List ℕ} {form : Form} {at : ℕ} {x : Typed} {from : ℕ} {t : ℤ} → TypedAt o form at x → x ≡ Standing from t → (at ≤ from) × (from ≤ length o)
 typed-past {o} {at = at} x q = subst (pastTyped o at) q (x .past)
 
 pub leaf-past : {o : List ℕ} {t : ℤ} {at : ℕ} {x : Data} {f : Fore} → DataOf o t at x → x ≡ Leaf f → pastFore o at f
@@ -56,7 +53,7 @@ fore-long : (h : Head) → length (fore h) ≡ length (identifier h) + length (d
 unfolding fore
 fore-long h = length-append (identifier h) (dataBy (kindOf (h .ty)) h)
 
-type-is : {o : List ℕ} {form : Form} {at : ℕ} {x : Typed} → TypedAt o form at x → (h : Head) → Stands form h → Begins o at (fore h) → x ≡ Standing (at + length (identifier h)) (h .own) (h .ty)
+type-is : {o : List ℕ} {form : Form} {at : ℕ} {x : Typed} → TypedAt o form at x → (h : Head) → Stands form h → Begins o at (fore h) → x ≡ Standing (at + length (identifier h)) (h .ty)
 type-is typed h s b = typed-is typed h s (begins-left (identifier h) (dataBy (kindOf (h .ty)) h) (fore-is h b))
 
 pub row-untyped : {o : List ℕ} {form : Form} {i at : ℕ} {x : Typed} {r : Refusal} → TypedAt o form at x → x ≡ Untyped r → RowAt o form i at NoRow
@@ -81,7 +78,7 @@ nest-is : (h : Head) (cs : Children) → nestOf h cs ≡ nestBy (kindOf (h .ty))
 unfolding nestOf
 nest-is h cs = refl
 
-module _ {o : List ℕ} {form : Form} {at : ℕ} {x : Typed} (typed : TypedAt o form at x) {from own : ℕ} {t t' : ℤ} (q : x ≡ Standing from own t) (e : t' ≡ t) {y : Data} (reads : DataOf o t' from y) where
+module _ {o : List ℕ} {form : Form} {at : ℕ} {x : Typed} (typed : TypedAt o form at x) {from : ℕ} {t t' : ℤ} (q : x ≡ Standing from t) (e : t' ≡ t) {y : Data} (reads : DataOf o t' from y) where
   end-same : (h : Head) → Stands form h → Begins o at (fore h) → from + length (dataBy (kindOf (h .ty)) h) ≡ at + length (fore h)
   end-same h s b = let l : from ≡ at + length (identifier h) = standing-from (sym q ∙ type-is typed h s b) in omega (arith, fore-long h)
 
@@ -94,18 +91,18 @@ module _ {o : List ℕ} {form : Form} {at : ℕ} {x : Typed} (typed : TypedAt o 
       (moved (standing-from w) (begins-right (identifier h) (dataBy (kindOf (h .ty)) h) (fore-is h b)))
       (moved (end-same h s b) (subst (λ (n : Nest). Begins o (at + length (fore h)) (spellChildren (n .indexed) (v .inside))) (nest-is h (v .inside)) b')))
 
-  row-same : (i : ℕ) (h : Head) → Stands form h → Begins o at (fore h) → rowWith t' own i (foreOf (kindOf (h .ty)) h from) at ≡ frontRow i h at
-  row-same i h s b = let z = sym q ∙ type-is typed h s b in rw (e ∙ standing-type z, standing-own z, end-same h s b)
+  row-same : (i : ℕ) (h : Head) → Stands form h → Begins o at (fore h) → rowWith t' (ownOf form) i (foreOf (kindOf (h .ty)) h from) at ≡ frontRow i h at
+  row-same i h s b = let z = sym q ∙ type-is typed h s b in rw (e ∙ standing-type z, own-is form h s, end-same h s b)
 
-  row-found : (i : ℕ) (y' : Data) → y ≡ y' → RowAt o form i at (rowed (λ f. rowWith t' own i f at) y')
+  row-found : (i : ℕ) (y' : Data) → y ≡ y' → RowAt o form i at (rowed (λ f. rowWith t' (ownOf form) i f at) y')
   row-found i y' z = record {
     past = by y' (subst (pastData o from) z (reads .past));
     same = λ v s k g d b b'.
-        ap (rowed λ f. rowWith t' own i f at) (sym z ∙ data-is v s k g d b b') ∙ rowed-with (λ f. rowWith t' own i f at) (kindOf (v .top .ty) .holds) _ _
+        ap (rowed λ f. rowWith t' (ownOf form) i f at) (sym z ∙ data-is v s k g d b b') ∙ rowed-with (λ f. rowWith t' (ownOf form) i f at) (kindOf (v .top .ty) .holds) _ _
         ∙ ap (λ (r : Row). foundBy (kindOf (v .top .ty) .holds) r (nestOf (v .top) (v .inside))) (row-same i (v .top) s b);
   }
     where
-      by : (u : Data) → pastData o from u → pastFound o at (rowed (λ f. rowWith t' own i f at) u)
+      by : (u : Data) → pastData o from u → pastFound o at (rowed (λ f. rowWith t' (ownOf form) i f at) u)
       by (Leaf f) p = let a = typed-past typed q in (omega arith, p .1)
       by (Holder f n) p = let a = typed-past typed q in (omega arith, p .0 .1, p .1)
       by Unread p = tt
@@ -113,8 +110,8 @@ module _ {o : List ℕ} {form : Form} {at : ℕ} {x : Typed} (typed : TypedAt o 
   pub row-unread : {i : ℕ} → y ≡ Unread → RowAt o form i at NoRow
   row-unread {i} z = row-found i Unread z
 
-  pub row-leaf : {i : ℕ} {f : Fore} → y ≡ Leaf f → {row : Row} → row ≡ rowWith t' own i f at → RowAt o form i at (LeafRow row)
-  row-leaf {i} {f} z r = rw r (row-found i (Leaf f) z)
+  pub row-leaf : {i own : ℕ} {f : Fore} → y ≡ Leaf f → own ≡ ownOf form → {row : Row} → row ≡ rowWith t' own i f at → RowAt o form i at (LeafRow row)
+  row-leaf {i} {f = f} z w r = rw (r, w) (row-found i (Leaf f) z)
 
-  pub row-holder : {i : ℕ} {f : Fore} {n : Nest} → y ≡ Holder f n → {row : Row} → row ≡ rowWith t' own i f at → RowAt o form i at (HolderRow row n)
-  row-holder {i} {f} {n} z r = rw r (row-found i (Holder f n) z)
+  pub row-holder : {i own : ℕ} {f : Fore} {n : Nest} → y ≡ Holder f n → own ≡ ownOf form → {row : Row} → row ≡ rowWith t' own i f at → RowAt o form i at (HolderRow row n)
+  row-holder {i} {f = f} {n = n} z w r = rw (r, w) (row-found i (Holder f n) z)

@@ -300,10 +300,13 @@ fn row_at(src: &[u8], form: Form, label: u32, at: usize) -> Found
 {
     match decide::typed_at(src, form, at) {
         Typed::Untyped(_) => Found::Unread,
-        Typed::Standing(from, own, ty) => match data_at(src, ty, from) {
+        Typed::Standing(from, ty) => match data_at(src, ty, from) {
             Data::Unread => Found::Unread,
-            Data::Leaf(f) => Found::Leaf(front_row(ty, own, label, f, at)),
-            Data::Holder(f, nest) => Found::Holder(front_row(ty, own, label, f, at), nest),
+            Data::Leaf(f) => Found::Leaf(front_row(ty, decide::own_of(form), label, f, at)),
+            Data::Holder(f, nest) => Found::Holder(
+                front_row(ty, decide::own_of(form), label, f, at),
+                nest,
+            ),
         },
     }
 }

@@ -25,7 +25,7 @@ use Rattle.decide.specs.declared.Typed.the-variants.{Standing as Typing, Untype
 use Rattle.decide.specs.declared.Next.{Next}
 use Rattle.decide.specs.declared.Next.the-variants.{Value, End, Halt}
 use Rattle.decide.specs.Classes.{Is, ClassOf}
-use Rattle.decide.specs.Forms.{TypedAt, turn}
+use Rattle.decide.specs.Forms.{ownOf, TypedAt, turn}
 use Rattle.decide.specs.Gates.{nextLow, nextOut, pastNext, NextAt}
 use Rattle.measure.specs.declared.Contents.{Contents}
 use Rattle.measure.specs.declared.Plan.{Plan}
@@ -104,11 +104,11 @@ module _ {o : List ℕ} {w : Form} {at : ℕ} {x : Typed} (typed : TypedAt o w a
   pub deep-untyped : {r : Refusal} → x ≡ Untyped r → DeepAt o w at r
   deep-untyped e = record { refuses = λ f s v. odd (subst (TypedAt o w at) e typed) f s (dataOf 0) v }
 
-  pub deep-typed : {from own n : ℕ} {z : ℤ} {c : Class} {once : Bool} → at ≤ length o → x ≡ Typing from own z → mag z < 2 ^ 31 → ClassOf (toZ w32 (ofZ w32 z)) c → once ≡ onceOf w → TooDeep c once n → DeepAt o w at (refusal n at)
-  deep-typed {from} {own} {n} {z} {c} {once} h e g k u d = record {
+  pub deep-typed : {from n : ℕ} {z : ℤ} {c : Class} {once : Bool} → at ≤ length o → x ≡ Typing from z → mag z < 2 ^ 31 → ClassOf (toZ w32 (ofZ w32 z)) c → once ≡ onceOf w → TooDeep c once n → DeepAt o w at (refusal n at)
+  deep-typed {from} {n} {z} {c} {once} h e g k u d = record {
     refuses = λ f s v.
         headed h (subst (TypedAt o w at) e typed) f s .judges (dataOf 0) v
-        ∙ subst (λ (b : Bool). TooDeep c b n) u d .refuses z own at (stand o from v) (subst (λ (t : ℤ). ClassOf t c) (held (record { sfits = g })) k .is);
+        ∙ subst (λ (b : Bool). TooDeep c b n) u d .refuses z (ownOf w) at (stand o from v) (subst (λ (t : ℤ). ClassOf t c) (held (record { sfits = g })) k .is);
   }
 
 -- ---- the value reader

@@ -18,7 +18,7 @@ use Rattle.decide.specs.declared.Form.{Form}
 use Rattle.decide.specs.declared.Form.the-variants.{Whole, Named, Bare}
 use Rattle.decide.specs.declared.Typed.the-variants.{Standing, Untyped}
 use Rattle.decide.specs.Classes.{elementary}
-use Rattle.decide.specs.Forms.{IdentifierIs, BareIs, TypedIs, TypedAt}
+use Rattle.decide.specs.Forms.{ownOf, IdentifierIs, BareIs, TypedIs, TypedAt}
 use Rattle.measure.specs.Plans.{onceOf, Means, Stands, judged}
 
 -- a value in a form f at a place, whose data are read from another place on: the type is judged there, and lies before its data or is an element type
@@ -33,12 +33,12 @@ by-identifier : (once : Bool) (o : List ℕ) (at : ℕ) (inner : Inner) (e : Env
 unfolding each judged _>>=_ here stand
 by-identifier once o at inner e = refl
 
-whole-headed : (once : Bool) {o : List ℕ} {at from own : ℕ} {t : ℤ} → IdentifierIs o at (Standing from own t) → Headed o (whole once) at from own t once
-whole-headed once {o} {at} {from} {own} {t} i = record {
-  further = omega (arith, i .1);
-  within = i .2;
-  later = inl (i .1);
-  judges = λ inner e. by-identifier once o at inner e ∙ ap (λ (y : Out ℤ). follow y (λ t. judged inner once t 1 at)) (i .3 e) ∙ ap (λ (n : ℕ). judged inner once t n at (stand o from e)) (sym (i .0));
+whole-headed : (once : Bool) {o : List ℕ} {at from : ℕ} {t : ℤ} → IdentifierIs o at (Standing from t) → Headed o (whole once) at from 1 t once
+whole-headed once {o} {at} {from} {t} i = record {
+  further = omega (arith, i .0);
+  within = i .1;
+  later = inl (i .0);
+  judges = λ inner e. by-identifier once o at inner e ∙ ap (λ (y : Out ℤ). follow y (λ t. judged inner once t 1 at)) (i .2 e);
 }
 
 -- a bare value is not judged: its type was
@@ -50,19 +50,19 @@ unjudged inner t own p s e = rw (carried (kindOf t .carried) (ltZ (negsuc 30) t)
     carried true b e = refl
     carried false b e = e
 
-bare-headed : {o : List ℕ} {at from own : ℕ} {s t : ℤ} → at ≤ length o → BareIs t at (Standing from own s) → elementary t ≡ true → Headed o (bare t) at from own s false
+bare-headed : {o : List ℕ} {at from : ℕ} {s t : ℤ} → at ≤ length o → BareIs t at (Standing from s) → elementary t ≡ true → Headed o (bare t) at from 0 s false
 unfolding each _>>=_ here stand
-bare-headed {o} {at} {from} {own} {s} {t} h i k = rw (i .0, i .1, i .2) record {
+bare-headed {o} {at} {from} {s} {t} h i k = rw (i .0, i .1) record {
   further = omega arith;
   within = h;
   later = inr k;
   judges = λ inner e. sym (unjudged inner t 0 at (stand o at e) k);
 }
 
-pub headed : {o : List ℕ} {w : Form} {at from own : ℕ} {t : ℤ} → at ≤ length o → TypedAt o w at (Standing from own t) → (f : Forms) → Stands w f → Headed o f at from own t (onceOf w)
-headed {o} {w} {at} {from} {own} {t} h typed f s = by w f (s .means) (typed .is)
+pub headed : {o : List ℕ} {w : Form} {at from : ℕ} {t : ℤ} → at ≤ length o → TypedAt o w at (Standing from t) → (f : Forms) → Stands w f → Headed o f at from (ownOf w) t (onceOf w)
+headed {o} {w} {at} {from} {t} h typed f s = by w f (s .means) (typed .is)
   where
-    by : (w : Form) (f : Forms) → Means w f → TypedIs o w at (Standing from own t) → Headed o f at from own t (onceOf w)
+    by : (w : Form) (f : Forms) → Means w f → TypedIs o w at (Standing from t) → Headed o f at from (ownOf w) t (onceOf w)
     by Whole (whole once) m i = rw m (whole-headed false i)
     by Named (whole once) m i = rw m (whole-headed true i)
     by (Bare a) (whole once) m i = absurd m

@@ -28,7 +28,7 @@ use Rattle.decide.specs.Classes.{leastOf, elementary, ClassOf}
 use Rattle.decide.specs.declared.Form.{Form}
 use Rattle.decide.specs.declared.Typed.{Typed}
 use Rattle.decide.specs.declared.Typed.the-variants.{Standing, Untyped}
-use Rattle.decide.specs.Forms.{TypedAt}
+use Rattle.decide.specs.Forms.{ownOf, TypedAt}
 use Rattle.measure.specs.declared.Plan.{Plan}
 use Rattle.measure.specs.declared.Plan.the-variants.{Refuse, Single, Inner as Nested}
 use Rattle.measure.specs.Identities.{envOf}
@@ -91,12 +91,12 @@ starts-before : {at from : ℕ} {t : ℤ} {c : Class} → ClassOf t c → at ≤
 starts-before k h (inl p) = omega arith
 starts-before k h (inr e) = omega (arith, k .least (k .element ∙ e))
 
-pub value-typed : {o l : List ℕ} {w : Form} {at from own : ℕ} {z : ℤ} {c : Class} {once : Bool} {x : Typed} {r : Plan} → at ≤ length o → TypedAt o w at x → x ≡ Standing from own z → mag z < 2 ^ 31
+pub value-typed : {o l : List ℕ} {w : Form} {at from : ℕ} {z : ℤ} {c : Class} {once : Bool} {x : Typed} {r : Plan} → at ≤ length o → TypedAt o w at x → x ≡ Standing from z → mag z < 2 ^ 31
     → ClassOf (toZ w32 (ofZ w32 z)) c → once ≡ onceOf w → DataPlan o l c once from at r → ValuePlan o l w at r
 unfolding valueRows _>>=_
-value-typed {o} {l} {w} {at} {from} {own} {z} {c} {once} {r = r} h typed e g k u d = record {
+value-typed {o} {l} {w} {at} {from} {z} {c} {once} {r = r} h typed e g k u d = record {
   plan = λ f s.
       let q = headed h (subst (TypedAt o w at) e typed) f s in
       let j : ClassOf z c = subst (λ (t : ℤ). ClassOf t c) (held (record { sfits = g })) k in
-      plan-as o l (at + 1) (from + leastOf c) _ _ r (starts-before j (q .further) (q .later)) (λ lv. ap (λ (y : Out Value). follow y (λ v. return (suc (count (v .inside))))) (q .judges (dataOf (suc lv)) (envOf l))) (subst (λ (b : Bool). DataPlan o l c b from at r) u d .plan z own (j .is));
+      plan-as o l (at + 1) (from + leastOf c) _ _ r (starts-before j (q .further) (q .later)) (λ lv. ap (λ (y : Out Value). follow y (λ v. return (suc (count (v .inside))))) (q .judges (dataOf (suc lv)) (envOf l))) (subst (λ (b : Bool). DataPlan o l c b from at r) u d .plan z (ownOf w) (j .is));
 }

@@ -228,7 +228,7 @@ fn plan_at(src: &[u8], ids: &[u32], form: Form, at: usize) -> Plan
 {
     match decide::typed_at(src, form, at) {
         Typed::Untyped(r) => Plan::Refuse(r),
-        Typed::Standing(from, _, t) => {
+        Typed::Standing(from, t) => {
             let class = decide::class_of(t);
             data_plan(src, ids, class, once_of(form), from, at)
         }
@@ -272,7 +272,7 @@ fn too_deep(src: &[u8], form: Form, at: usize) -> Refusal
 {
     match decide::typed_at(src, form, at) {
         Typed::Untyped(r) => r,
-        Typed::Standing(_, _, t) => Refusal {
+        Typed::Standing(_, t) => Refusal {
             place: at,
             number: deep_number(decide::class_of(t), once_of(form)),
         },

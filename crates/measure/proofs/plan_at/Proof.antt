@@ -41,7 +41,7 @@ returns c = value-odd (c .before .before .before .typed-at .ensures) (c .before 
 
 -- src/lib.rt:225:1
 returns-2 : tie.Need-returns-2
-returns-2 c = value-typed (c .before .before .before .before .before .before .before .before .before .pre .0) (c .before .before .before .before .before .before .typed-at .ensures) (c .before .before .before .before .from .given .1) (c .before .before .before .known-told2 .given .1 .1 .0 .1) (c .before .before .class-of .ensures) (c .before .once-of .ensures) (c .data-plan .ensures)
+returns-2 c = value-typed (c .before .before .before .before .before .before .before .before .before .pre .0) (c .before .before .before .before .before .before .typed-at .ensures) (c .before .before .before .before .from .given .1) (c .before .before .before .known-told2 .given .1 .0 .1) (c .before .before .class-of .ensures) (c .before .once-of .ensures) (c .data-plan .ensures)
 
 pub plan-at-spec : {M : Type 1} → statement M
 plan-at-spec =

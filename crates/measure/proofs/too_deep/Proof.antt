@@ -39,7 +39,7 @@ returns c = deep-untyped (c .before .before .before .typed-at .ensures) (c .befo
 
 -- src/lib.rt:273:1
 returns-2 : tie.Need-returns-2
-returns-2 c = deep-typed (c .before .before .before .before .before .before .typed-at .ensures) (c .before .before .before .before .before .before .before .before .pre) (c .before .before .before .before .t .given .1) (c .before .before .before .known-told2 .given .1 .1 .0 .1) (c .before .before .class-of .ensures) (c .before .once-of .ensures) (c .deep-number .ensures)
+returns-2 c = deep-typed (c .before .before .before .before .before .before .typed-at .ensures) (c .before .before .before .before .before .before .before .before .pre) (c .before .before .before .before .t .given .1) (c .before .before .before .known-told2 .given .1 .0 .1) (c .before .before .class-of .ensures) (c .before .once-of .ensures) (c .deep-number .ensures)
 
 pub too-deep-spec : {M : Type 1} → statement M
 too-deep-spec =
