@@ -14,7 +14,7 @@ use denote.Enum.Declared.{tagOf}
 use mir.Syntax.{w32}
 use mir.Val.{toZ, ofZ}
 use Rattle.reading.specs.declared.Refusal.{Refusal}
-use Rattle.reading.specs.Reading.{stand, return}
+use Rattle.reading.specs.Reading.{return}
 use Rattle.integer.specs.declared.Read32.{Read32}
 use Rattle.integer.specs.declared.Read32.the-variants.{Int32, Refused32}
 use Rattle.integer.specs.Answers.{out32, past32, Reads32}

@@ -14,12 +14,12 @@ use Rattle.integer.proofs.Laws.{integer-does, enough32}
 use Rattle.format.specs.Spelling.{index}
 use Rattle.decide.specs.declared.Next.{Next}
 use Rattle.decide.specs.declared.Next.the-variants.{Value, End, Halt}
-use Rattle.decide.specs.Gates.{Gate, halt, ends, go, indexGate, gate, nextOut, NextAt}
+use Rattle.decide.specs.Gates.{Gate, halt, ends, go, indexGate, nextOut, NextAt}
 use Rattle.fill.specs.Numbers.{Begins}
 use Rattle.fill.specs.Rows.{Follows, Ended}
 use Rattle.fill.proofs.Begins.{unnamed, read-is}
 
--- the answer, by where its gate leads
+-- the place that an answer leads to
 place-of : Gate → ℕ
 place-of (halt r) = 0
 place-of (ends s) = s .at

@@ -11,7 +11,7 @@ use lib.Signed.{mag}
 use mir.Syntax.{w64}
 use mir.Val.{toZ}
 use Rattle.reading.specs.declared.Refusal.{Refusal}
-use Rattle.format.specs.Types.{Datum, Text, none, octets, Holds, nothing, Kind, string}
+use Rattle.format.specs.Types.{Datum, Text, none, Holds, nothing, Kind, string}
 use Rattle.format.specs.Data.{spellNumber, spellElement}
 use Rattle.format.specs.Values.{Head}
 use Rattle.format.specs.Spelling.{dataBy}

@@ -8,13 +8,11 @@ use lib.ListN.{length, length-append}
 use lib.IntN.{ℤ, negsuc}
 use lib.Signed.{ltZ}
 use borrow.Author.Tests.{ltb-true}
-use Rattle.reading.specs.Reading.{State}
-use Rattle.reading.proofs.Sound.{Sound, s-weaken}
 use Rattle.integer.specs.Packed.{spellInt}
 use Rattle.integer.proofs.Spelling.{Spelt, one, more, spelt}
 use Rattle.format.specs.Types.{Datum, packed, fixed, code, amount, implied, Parts, date, time, dateTime, Holds, nothing, values, couples, indexes, properties, parts, Kind, kindOf}
 use Rattle.format.specs.Data.{usual, unsigned, spellNumber}
-use Rattle.format.specs.Values.{Head, Children, empty, child, childOf, Value, value, Form, whole, bare, formed, Rule, counted, rising, moments, ruleBy, ruleOf, pieces, Inner, each}
+use Rattle.format.specs.Values.{Head, Children, empty, child, childOf, Value, value, Form, whole, bare, formed, Rule, counted, rising, moments, ruleBy, ruleOf, pieces, each}
 use Rattle.format.specs.Spelling.{fore, indexed, spellChildren, spell}
 use Rattle.format.specs.Rows.{count, rows}
 use Rattle.format.specs.Grammar.{Number, Element, Good, Formed, Allows, next, Moment, Held, Fits, Shaped, Valid}
@@ -23,7 +21,7 @@ use Rattle.laws.proofs.Types.{isParts, filled, above-filled}
 use Rattle.laws.proofs.Characters.{char-spelt}
 use Rattle.laws.proofs.Leaves.{bigSpelt-long}
 use Rattle.laws.proofs.Moments.{spellInts, parts-of, pieces-spelt}
-use Rattle.laws.proofs.Sound.{owned, Sound-inner, each-sound}
+use Rattle.laws.proofs.Sound.{owned}
 use Rattle.format.proofs.Counts.{rows-length}
 
 -- ---- values take octets
@@ -36,37 +34,37 @@ int-some z = by (spelt z)
     by (more b m e l k n s) = omega (arith, ap length e)
 
 -- a form in which every value takes octets: with its identifier, or bare of a carried type above -31
-abbrev pub Elemental : Form → Type 0
-Elemental (whole once) = Unit {0}
-Elemental (bare t) = (kindOf t .carried ≡ true) × (ltZ (negsuc 30) t ≡ true)
+abbrev pub TakesOctets : Form → Type 0
+TakesOctets (whole once) = Unit {0}
+TakesOctets (bare t) = (kindOf t .carried ≡ true) × (ltZ (negsuc 30) t ≡ true)
 
-abbrev pub Elemental-rule : Rule → Type 0
-Elemental-rule (counted paired f g n i) = Elemental f × Elemental g
-Elemental-rule (rising f top low) = Elemental f
-Elemental-rule (moments d) = Unit {0}
+abbrev pub TakingOctets : Rule → Type 0
+TakingOctets (counted paired f g n i) = TakesOctets f × TakesOctets g
+TakingOctets (rising f top low) = TakesOctets f
+TakingOctets (moments d) = Unit {0}
 
-formed-elemental : (b : Bool) (e : ℤ) → Element b e → Elemental (formed b e)
-formed-elemental true e g = (g .1, g .2)
-formed-elemental false e g = tt
+formed-taking : (b : Bool) (e : ℤ) → Element b e → TakesOctets (formed b e)
+formed-taking true e g = (g .1, g .2)
+formed-taking false e g = tt
 
 -- the values inside stand in such forms
-pub rule-elemental : (h : Head) → Good (kindOf (h .ty)) h → Elemental-rule (ruleOf h)
+pub rule-taking : (h : Head) → Good (kindOf (h .ty)) h → TakingOctets (ruleOf h)
 unfolding ruleOf
-rule-elemental h g = by (kindOf (h .ty)) (kindOf (h .ty) .holds) (g .first-good) (g .second-good)
+rule-taking h g = by (kindOf (h .ty)) (kindOf (h .ty) .holds) (g .first-good) (g .second-good)
   where
-    by : (k : Kind) (y : Holds) → Element (k .first) (h .first) → Element (k .second) (h .second) → Elemental-rule (ruleBy k y h)
+    by : (k : Kind) (y : Holds) → Element (k .first) (h .first) → Element (k .second) (h .second) → TakingOctets (ruleBy k y h)
     by k nothing e f = (tt, tt)
-    by k values e f = (formed-elemental (k .first) (h .first) e, formed-elemental (k .first) (h .first) e)
-    by k couples e f = (formed-elemental (k .first) (h .first) e, formed-elemental (k .second) (h .second) f)
-    by k indexes e f = formed-elemental (k .first) (h .first) e
+    by k values e f = (formed-taking (k .first) (h .first) e, formed-taking (k .first) (h .first) e)
+    by k couples e f = (formed-taking (k .first) (h .first) e, formed-taking (k .second) (h .second) f)
+    by k indexes e f = formed-taking (k .first) (h .first) e
     by k properties e f = tt
     by k Holds.one e f = (tt, tt)
     by k (parts d) e f = tt
 
-pub next-elemental : (r : Rule) (i : ℕ) → Elemental-rule r → Elemental-rule (next r i)
-next-elemental (counted paired f g n j) i s = (s .1, s .0)
-next-elemental (rising f top low) i s = s
-next-elemental (moments d) i s = s
+pub next-taking : (r : Rule) (i : ℕ) → TakingOctets r → TakingOctets (next r i)
+next-taking (counted paired f g n j) i s = (s .1, s .0)
+next-taking (rising f top low) i s = s
+next-taking (moments d) i s = s
 
 -- a number takes octets, or stands for a date or time
 data Numbered (l : List ℕ) (y : Holds) : Type 0 where
@@ -121,7 +119,7 @@ parts-full h cs e q = by (kindOf (h .ty) .holds) e (λ m n. dated m n) q
     by Holds.one e k q = clash (sym e)
     by (parts d) e k q = let m = moment-full d cs q in k (m .0) (m .1)
 
-form-full : (f : Form) (v : Value) → Elemental f → Formed f (v .top) → Shaped v → Full (v .top) (v .inside)
+form-full : (f : Form) (v : Value) → TakesOctets f → Formed f (v .top) → Shaped v → Full (v .top) (v .inside)
 unfolding fore
 form-full (whole once) v s w g = ahead (simp length-append (omega (arith, int-some (v .top .ty), ap length (owned (v .top) (w .has-own)))))
 form-full (bare t) v s w g =
@@ -135,7 +133,7 @@ form-full (bare t) v s w g =
     by (none e) = parts-full (v .top) (v .inside) e (g .held)
 
 -- a value takes at least one octet
-pub value-some : (f : Form) (v : Value) → Elemental f → Formed f (v .top) → Shaped v → 0 < length (spell v)
+pub value-some : (f : Form) (v : Value) → TakesOctets f → Formed f (v .top) → Shaped v → 0 < length (spell v)
 unfolding spell
 value-some f v s w g = by (form-full f v s w g)
   where
@@ -144,12 +142,7 @@ value-some f v s w g = by (form-full f v s w g)
     by (dated m n) = simp length-append (omega arith)
 
 -- and so does its reading
-pub each-some : (lv : ℕ) (inner : Inner) → Sound-inner lv inner → (f : Form) (s : State) → Elemental f → Sound (each inner f) s (λ v s' u. 0 < length u)
-each-some lv inner k f s h = s-weaken (λ v s' u q. subst (λ (l : List ℕ). 0 < length l) (sym (q .1)) (value-some f v h (q .0) (q .2 .shaped))) (each-sound lv inner k f s)
-
--- ---- so do the values inside
-
-allowed-form : (r : Rule) (j : ℕ) (h : Head) → Elemental-rule r → Allows r j h → (f : Form) × Elemental f × Formed f h
+allowed-form : (r : Rule) (j : ℕ) (h : Head) → TakingOctets r → Allows r j h → (f : Form) × TakesOctets f × Formed f h
 allowed-form (counted paired f g n i) j h s a = (f, s .0, a .2)
 allowed-form (rising f top low) j h s a = (f, s, a .2)
 allowed-form (moments d) j h s a = absurd a
@@ -168,21 +161,21 @@ held-some (counted paired f g n i) cs q k = k q
 held-some (rising f top low) cs q k = k q
 held-some (moments d) cs q k = subst Somes (sym (q .are-pieces)) (pieces-some 0 _)
 
-fits-some : (r : Rule) (cs : Children) → Elemental-rule r → Fits r cs → Somes cs
+fits-some : (r : Rule) (cs : Children) → TakingOctets r → Fits r cs → Somes cs
 unfolding Somes Fits
 fits-some r empty s q = tt
 fits-some r (child i h cs others) s q =
     let w = allowed-form r i h s (q .0) in (
       value-some (w .0) (value h cs) (w .1) (w .2) (record { good = q .1; held = q .2 }),
-      held-some (ruleOf h) cs (q .2) (fits-some (ruleOf h) cs (rule-elemental h (q .1))),
-      fits-some (next r i) others (next-elemental r i s) (q .3),
+      held-some (ruleOf h) cs (q .2) (fits-some (ruleOf h) cs (rule-taking h (q .1))),
+      fits-some (next r i) others (next-taking r i s) (q .3),
     )
 
 pub valid-some : (v : Value) → Valid v → Somes (childOf 0 v empty)
 unfolding Somes
 valid-some v a =
     let g = a .shaped in
-    (value-some (whole false) v tt (a .outermost) g, held-some (ruleOf (v .top)) (v .inside) (g .held) (fits-some (ruleOf (v .top)) (v .inside) (rule-elemental (v .top) (g .good))), tt)
+    (value-some (whole false) v tt (a .outermost) g, held-some (ruleOf (v .top)) (v .inside) (g .held) (fits-some (ruleOf (v .top)) (v .inside) (rule-taking (v .top) (g .good))), tt)
 
 -- ---- rows and octets
 
@@ -197,14 +190,14 @@ unfolding spell
 value-count h cs (ahead n) b = simp length-append (omega arith)
 value-count h cs (dated m n) b = simp length-append (omega arith)
 
-fits-count : (x : Bool) (r : Rule) (cs : Children) → Elemental-rule r → Fits r cs → 2 * count cs ≤ 3 * length (spellChildren x cs)
+fits-count : (x : Bool) (r : Rule) (cs : Children) → TakingOctets r → Fits r cs → 2 * count cs ≤ 3 * length (spellChildren x cs)
 unfolding count spellChildren Fits spell
 fits-count x r empty s q = omega arith
 fits-count x r (child i h cs others) s q =
     let w = allowed-form r i h s (q .0) in
-    let inside = held-count (ruleOf h) cs (q .2) (fits-count (indexed (ruleOf h)) (ruleOf h) cs (rule-elemental h (q .1))) in
+    let inside = held-count (ruleOf h) cs (q .2) (fits-count (indexed (ruleOf h)) (ruleOf h) cs (rule-taking h (q .1))) in
     let own = value-count h cs (form-full (w .0) (value h cs) (w .1) (w .2) (record { good = q .1; held = q .2 })) inside in
-    let rest = fits-count x (next r i) others (next-elemental r i s) (q .3) in
+    let rest = fits-count x (next r i) others (next-taking r i s) (q .3) in
     simp length-append (omega (arith, simp length-append at own))
 
 -- a message of n octets has at most three rows for two octets
@@ -212,6 +205,6 @@ pub rows-count : (v : Value) → Valid v → 2 * length (rows v) ≤ 3 * length 
 unfolding rows count
 rows-count v a =
     let g = a .shaped in
-    let inside = held-count (ruleOf (v .top)) (v .inside) (g .held) (fits-count (indexed (ruleOf (v .top))) (ruleOf (v .top)) (v .inside) (rule-elemental (v .top) (g .good))) in
+    let inside = held-count (ruleOf (v .top)) (v .inside) (g .held) (fits-count (indexed (ruleOf (v .top))) (ruleOf (v .top)) (v .inside) (rule-taking (v .top) (g .good))) in
     let own = value-count (v .top) (v .inside) (form-full (whole false) v tt (a .outermost) g) inside in
     omega (arith, rows-length false 0 (childOf 0 v empty))

@@ -20,5 +20,4 @@ pub mod Places
 pub mod Indexes
 pub mod Named
 pub mod Entries
-pub mod Standing
 pub mod Theorems

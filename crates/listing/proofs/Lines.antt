@@ -3,7 +3,7 @@ use mathlib.Core.Path.{_≡_, refl, sym, ap, subst, _∙_}
 use mathlib.Core.Bool.{Bool, true, false, cond}
 use mathlib.Core.List.{List, [], _∷_, _++_, append-assoc, append-nil}
 use mathlib.Core.Logic.{inl, inr}
-use Prim.Native.Nat.{ℕ, zero, suc, _+_, _-_, _≤_, _<_}
+use Prim.Native.Nat.{ℕ, suc, _+_, _-_, _≤_, _<_}
 use native.Mathlib.Omega.{arith}
 use lib.ListN.{length, getD, take, drop, length-drop, length-append, take-append-drop}
 use lib.Seq.{length-take-le, take-all, take-append-seam, getD-append-seam, getD-drop}
@@ -13,8 +13,7 @@ use Rattle.bytes.specs.Bytes.{slice, indexAfter, indexOf}
 use Rattle.format.specs.Values.{has}
 use Rattle.format.specs.Desk.{lineText, deskFrom, desk}
 use Rattle.integer.specs.Writes.{Wrote}
-use Rattle.text.proofs.Writes.{wrote-append, wrote-kept}
-use Rattle.listing.specs.declared.Progress.{Progress}
+use Rattle.text.proofs.Writes.{wrote-append}
 use Rattle.listing.specs.Listing.{Listed, WholeLines, LinesListed}
 
 never : {A : Type 0} → true ≡ false → A

@@ -56,7 +56,7 @@ abbrev pub OneForm : Bool → Forms → Forms → Type 0
 OneForm true f g = f ≡ g
 OneForm false f g = Unit {0}
 
--- what a container holds, as the code keeps it: the forms are those that its elements' stands mean
+-- what a container holds, as the code keeps it, and the forms of `Values` that its forms mean
 pub record NestIs (o : List ℕ) (l : List ℕ) (at : ℕ) (n : Contents) (rows : ℕ → Out ℕ) : Type 0 where
   pub form-is : Forms
   pub other-is : Forms

@@ -10,8 +10,8 @@ use lib.Signed.{mag}
 use Rattle.format.specs.Message.{ok, refused}
 use Rattle.queries.specs.declared.Number.{Number}
 use Rattle.queries.specs.declared.Numeral.the-variants.{Says}
-use Rattle.queries.specs.declared.Told.{Told}
-use Rattle.queries.specs.declared.Told.the-variants as numbers
+use Rattle.queries.specs.declared.NumberField.{NumberField}
+use Rattle.queries.specs.declared.NumberField.the-variants as numbers
 use Rattle.queries.specs.declared.Place.{Place}
 use Rattle.queries.specs.declared.Place.the-variants as places
 use Rattle.queries.specs.declared.Integer.{Integer}
@@ -29,7 +29,7 @@ pub record NumberRead (line : List ℕ) (at : ℕ) (k : Number) (next : ℕ) : T
   pub within : next ≤ length line
 
 -- or there is no number with a field after it
-abbrev pub NumberAt : List ℕ → ℕ → Told → Type 0
+abbrev pub NumberAt : List ℕ → ℕ → NumberField → Type 0
 NumberAt line at (numbers.Past k next) = NumberRead line at k next
 NumberAt line at numbers.Not = after 1 (fieldsOf (drop at line)) ≡ []
 

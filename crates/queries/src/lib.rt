@@ -100,24 +100,24 @@ fn number_of(field: &[u8]) -> Numeral
 // ---- Fields ----
 
 // A number and the place past the blank after it, or that there is none.
-enum Told {
+enum NumberField {
     Past(Number, usize),
     Not,
 }
 
 // The number at a place, and the place of the next field.
-fn number_at(line: &[u8], at: usize) -> Told
+fn number_at(line: &[u8], at: usize) -> NumberField
     requires { ⌜ at ≤ length (now line) ⌝ }
     ensures { λ r. ⌜ NumberAt (now (line .entry)) at r ⌝ }
 {
     let n = line.len();
     let end = bytes::scan::find(line, at, n, b' ');
     if n <= end {
-        return Told::Not;
+        return NumberField::Not;
     }
     match number_of(&line[at..end]) {
-        Numeral::Not => Told::Not,
-        Numeral::Says(k) => Told::Past(k, end + 1),
+        Numeral::Not => NumberField::Not,
+        Numeral::Says(k) => NumberField::Past(k, end + 1),
     }
 }
 
@@ -135,7 +135,7 @@ fn pass(line: &[u8], at: usize, count: usize) -> Place
     let mut next = at;
     let mut i = 0;
     while i < count {
-        let Told::Past(_, past) = number_at(line, next) else {
+        let NumberField::Past(_, past) = number_at(line, next) else {
             return Place::Not;
         };
         next = past;
@@ -287,13 +287,13 @@ fn ask_row(ty: Number, number: Number, wanted: As) -> Query
 pub fn ask_line(line: &[u8]) -> Query
     ensures { λ r. ⌜ told r ≡ outcome (now (line .entry)) ⌝ }
 {
-    let Told::Past(ty, second) = number_at(line, 0) else {
+    let NumberField::Past(ty, second) = number_at(line, 0) else {
         return Query::Malformed;
     };
     let Place::At(fourth) = pass(line, second, 2) else {
         return Query::Malformed;
     };
-    let Told::Past(number, fifth) = number_at(line, fourth) else {
+    let NumberField::Past(number, fifth) = number_at(line, fourth) else {
         return Query::Malformed;
     };
     let Place::At(last) = pass(line, fifth, 6) else {

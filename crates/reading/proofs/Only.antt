@@ -65,10 +65,6 @@ o-ret {A} a = record { only = λ s r l b s' e. by s r l b s' e }
     by : (s : State) (r : List ℕ) → s .left ≡ r → (b : A) (s' : State) → got a s ≡ got b s' → (b ≡ a) × (s' .left ≡ r)
     by s r l b s' e = let ab : b ≡ a = cc in let ss : s' ≡ s = cc in (ab, rw ss l)
 
-pub after-return : {A B : Type 0} (x : A) (f : A → Reader B) (s : State) → (return x >>= f) s ≡ f x s
-unfolding _>>=_ return
-after-return x f s = refl
-
 -- the octets, or what was read, said another way
 pub o-as : {A : Type 0} {p : Reader A} {u u' : List ℕ} {a a' : A} → u ≡ u' → a ≡ a' → Only p u a → Only p u' a'
 o-as {p} e g h = record { only = λ s r l b s' q. let w = h .only s r (l ∙ ap (λ (x : List ℕ). x ++ r) (sym e)) b s' q in (w .0 ∙ g, w .1) }

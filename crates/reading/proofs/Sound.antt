@@ -83,10 +83,6 @@ module _ {B : Type 0} {s : State} {Q : B → State → List ℕ → Type 0} wher
   unfolding _>>=_ names
   s-names f h = s-still (λ l. refl) h
 
-  pub s-refuse : {A : Type 0} (n p : ℕ) (f : A → Reader B) → Sound (refuse n p >>= f) s Q
-  unfolding _>>=_ refuse
-  s-refuse n p f = record { sound = λ o b s' e. absurd (never e) }
-
   pub s-require : (t : Bool) (n p : ℕ) (f : Unit {0} → Reader B) → (t ≡ true → Sound (f tt) s Q) → Sound (require t n p >>= f) s Q
   unfolding _>>=_ require
   s-require true n p f h = s-still (λ l. refl) (h refl)
@@ -99,15 +95,6 @@ regroup {A} {B} {C} p g f x = by (p x)
     by : (o : Out A) → follow (follow o g) f ≡ follow o (λ a s. follow (g a s) f)
     by (got a s) = refl
     by (stop r) = refl
-
-module _ {C : Type 0} {s : State} {Q : C → State → List ℕ → Type 0} where
-  -- a block in a block
-  pub s-inside : {A B : Type 0} (p : Reader A) (g : A → Reader B) (f : B → Reader C) → Sound (p >>= λ a. g a >>= f) s Q → Sound ((p >>= g) >>= f) s Q
-  s-inside p g f h = s-alike (regroup p g f) h
-
-  pub s-return : {A : Type 0} (a : A) (f : A → Reader C) → Sound (f a) s Q → Sound (return a >>= f) s Q
-  unfolding _>>=_ return
-  s-return a f h = s-alike (λ x. refl) h
 
 -- a last step that takes no octets
 pub s-quiet : {A : Type 0} {s : State} {Q : A → State → List ℕ → Type 0} (p : Reader A) (a : A) (n : Env)

@@ -7,6 +7,5 @@ pub mod Chars
 pub mod Character
 pub mod Text
 pub mod Values
-pub mod Wider
 pub mod Dates
 pub mod Moments

@@ -1,21 +1,13 @@
 -- Octets as a number, most significant first.
 use mathlib.Core.Path.{_≡_, refl, sym, ap, _∙_}
-use mathlib.Core.Bool.{Bool, true, false}
 use mathlib.Core.List.{List, [], _∷_, _++_}
 use mathlib.Core.Logic.{inl, inr}
 use Prim.Native.Nat.{ℕ, suc, _+_, _*_, _<_, _≤_}
 use native.Mathlib.Omega.{arith}
 use native.Mathlib.Numerals.{add-one}
 use lib.ListN.{length, getD, take, drop}
-use lib.Dec.{ltb}
-use lib.IntN.{ℤ}
-use borrow.Author.Tests.{ltb-true, ltb-false}
 use lib.Seq.{drop-cons, drop-drop, take-add}
-use Rattle.reading.specs.Reading.{Env, State, got, stop, refusal, stand, _>>=_, return}
-use Rattle.reading.proofs.Sound.{never}
-use Rattle.format.specs.Types.{fixed}
-use Rattle.format.specs.Data.{big, bits, number}
-use Rattle.scalar.proofs.Octets.{run-at, run-end}
+use Rattle.format.specs.Data.{big}
 use Rattle.scalar.specs.Answers.{Size, bigAt}
 
 pub size-last : {n : ℕ} → Size n → (n ≡ 1 → ⊥) → (n ≡ 4 → ⊥) → n ≡ 8
@@ -66,21 +58,3 @@ module _ (o : List ℕ) (at n : ℕ) where
 
   pub big-of-eight : {x y : ℕ} → at + n ≤ length o → n ≡ 8 → x ≡ bigAt o at 4 → y ≡ bigAt o (at + 4) 4 → x * 4294967296 + y ≡ bigAt o at n
   big-of-eight w e p q = rw (p, q, e) (sym (big-eight o at (omega arith)))
-
--- ---- a number of fixed size, where it is accepted
-
-module _ (o : List ℕ) (at n : ℕ) (e : Env) where
-  pub fixed-given : at + n ≤ length o → number (fixed n) (stand o at e) ≡ got (bits (bigAt o at n)) (stand o (at + n) e)
-  unfolding number _>>=_ return
-  fixed-given h = rw (run-at o e n at h)
-
-  pub fixed-there : at ≤ length o → (z : ℤ) (s : State) → number (fixed n) (stand o at e) ≡ got z s → at + n ≤ length o
-  unfolding number _>>=_
-  fixed-there h z s q = by (ltb (length o) (at + n)) refl
-    where
-      short : length o < at + n → number (fixed n) (stand o at e) ≡ stop (refusal 1 (length o))
-      short g = rw (run-end o e n at h g)
-
-      by : (t : Bool) → ltb (length o) (at + n) ≡ t → at + n ≤ length o
-      by true w = absurd (never (sym (short (ltb-true _ _ w)) ∙ q))
-      by false w = ltb-false _ _ w

@@ -18,39 +18,30 @@ Inv-loop ty own label number first second place below start end k n out₀ at ne
 abbrev μ-loop : tie.MeasureT-loop
 μ-loop ty own label number first second place below start end k n out₀ at next₀ i₀ out next i = n - i
 
--- src/lib.rt:148:5
 loop-holds : tie.Need-loop-holds Inv-loop μ-loop
 loop-holds c = (omega arith, parts-none _ _)
 
--- src/lib.rt:160:13
 add-row-at : tie.Need-add-row-at Inv-loop μ-loop
 add-row-at c = omega (arith, c .before .before .before .before .before .before .before .before .before .pre .0 .ty-room)
 
--- src/lib.rt:149:13
 row-at-requires : tie.Need-row-at-requires Inv-loop μ-loop
 row-at-requires c κs = row-room (c .before .before .before .before .before .before .before .before .before .pre .0) (omega (arith, c .loop-test .taken))
 
--- src/lib.rt:162:9
 put-row-requires : tie.Need-put-row-requires Inv-loop μ-loop
 put-row-requires c κs = part-room (c .before .before .before .loop .inv .1) (c .before .row-at .ensures) (c .before .before .before .before .before .before .before .before .before .before .before .pre .1) (c .before .before .loop-test .taken)
 
--- src/lib.rt:163:9
 add-i : tie.Need-add-i Inv-loop μ-loop
 add-i c = omega arith
 
--- src/lib.rt:148:5
 loop-less : tie.Need-loop-less Inv-loop μ-loop
 loop-less c = omega arith
 
--- src/lib.rt:148:5
 loop-again : tie.Need-loop-again Inv-loop μ-loop
 loop-again c = (omega arith, parts-again (c .before .before .before .before .before .before .loop .inv .1) (c .before .before .before .before .row-at .ensures) (c .before .before .put-row .ensures))
 
--- src/lib.rt:127:1
 same-length : tie.Need-same-length Inv-loop μ-loop
 same-length c = wrote-kept (c .before .loop .inv .1 .wrote)
 
--- src/lib.rt:127:1
 returns : tie.Need-returns Inv-loop μ-loop
 returns c = parts-all (c .loop-test .left) (c .before .loop .inv)
 

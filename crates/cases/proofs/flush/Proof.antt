@@ -7,19 +7,15 @@ use Rattle.cases.proofs.flush.Reads as reads
 use Rattle.cases.proofs.flush.Lts as lts
 use Rattle.io.proofs.write_all.Reads as write-all-reads
 
--- src/main.rt:24:9
 returns : tie.Need-returns
 returns c = search needs
 
--- src/main.rt:26:40
 slice-aggregate-write-all : tie.Need-slice-aggregate-write-all
 slice-aggregate-write-all c = sym (length-take-le _ _ (c .before .before .before .pre))
 
--- src/main.rt:26:5
 write-all-requires : tie.Need-write-all-requires
 write-all-requires c κs = search needs
 
--- src/main.rt:19:1
 returns-2 : tie.Need-returns-2
 returns-2 c = search needs
 

@@ -7,35 +7,27 @@ use Rattle.decide.proofs.amount_at.Lts as lts
 use Rattle.decide.proofs.out_of_bounds.Reads as out-of-bounds-reads
 use Rattle.integer.proofs.signed_at.Reads as signed-at-reads
 
--- src/lib.rt:135:11
 signed-at-requires : tie.Need-signed-at-requires
 signed-at-requires c κs = search needs
 
--- src/lib.rt:136:26
 enum-known-next : tie.Need-enum-known-next
 enum-known-next c = search needs
 
--- src/lib.rt:137:52
 enum-told : tie.Need-enum-told
 enum-told c = search needs
 
--- src/lib.rt:137:52
 out-of-bounds-requires : tie.Need-out-of-bounds-requires
 out-of-bounds-requires c κs = search needs
 
--- src/lib.rt:138:24
 enum-known-r : tie.Need-enum-known-r
 enum-known-r c = search needs
 
--- src/lib.rt:132:1
 returns : tie.Need-returns
 returns c = amount-positive (c .before .before .before .signed-at .ensures) (c .before .next .given .1)
 
--- src/lib.rt:132:1
 returns-2 : tie.Need-returns-2
 returns-2 c = rw (c .out-of-bounds .ensures) (amount-negative (c .before .before .before .signed-at .ensures) (c .before .enum-told .given .1))
 
--- src/lib.rt:132:1
 returns-3 : tie.Need-returns-3
 returns-3 c = amount-faulty (c .before .before .before .signed-at .ensures) (c .before .r .given .1)
 

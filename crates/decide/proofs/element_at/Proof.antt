@@ -4,35 +4,27 @@ use borrow.Author.Needs.{needs}
 use Rattle.decide.proofs.element_at.Statement.{statement}
 use Rattle.decide.proofs.element_at.Tie as tie
 
--- src/lib.rt:139:11
 int32-at-requires : tie.Need-int32-at-requires
 int32-at-requires c κs = search needs
 
--- src/lib.rt:140:23
 enum-known-next : tie.Need-enum-known-next
 enum-known-next c = search needs
 
--- src/lib.rt:141:23
 class-of-requires : tie.Need-class-of-requires
 class-of-requires c κs = search needs
 
--- src/lib.rt:141:16
 may-be-element-requires : tie.Need-may-be-element-requires
 may-be-element-requires c κs = search needs
 
--- src/lib.rt:142:17
 returns : tie.Need-returns
 returns c = type-some (c .before .before .before .before .before .before .int32-at .ensures) (c .before .before .before .before .next .given .1) (c .before .before .before .known-told .given .1 .0 .1) (c .before .before .class-of .ensures) (sym (c .before .may-be-element .ensures) ∙ c .if1 .taken)
 
--- src/lib.rt:149:27
 enum-known-r : tie.Need-enum-known-r
 enum-known-r c = search needs
 
--- src/lib.rt:136:1
 returns-2 : tie.Need-returns-2
 returns-2 c = type-none (c .before .before .before .before .before .before .int32-at .ensures) (c .before .before .before .before .next .given .1) (c .before .before .before .known-told .given .1 .0 .1) (c .before .before .class-of .ensures) (sym (c .before .may-be-element .ensures) ∙ c .if1 .left)
 
--- src/lib.rt:136:1
 returns-3 : tie.Need-returns-3
 returns-3 c = type-faulty (c .before .before .before .int32-at .ensures) (c .before .r .given .1)
 

@@ -6,11 +6,9 @@ use Rattle.decide.proofs.form_of.Tie as tie
 use Rattle.decide.proofs.form_of.Reads as reads
 use Rattle.decide.proofs.form_of.Lts as lts
 
--- src/lib.rt:234:9
 returns : tie.Need-returns
 returns c = rw (c .if1 .taken, held {w = w32} (c .before .fits .t))
 
--- src/lib.rt:230:1
 returns-2 : tie.Need-returns-2
 returns-2 c = search needs
 

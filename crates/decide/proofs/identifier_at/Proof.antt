@@ -6,23 +6,18 @@ use Rattle.decide.proofs.identifier_at.Reads as reads
 use Rattle.decide.proofs.identifier_at.Lts as lts
 use Rattle.integer.proofs.int32_at.Reads as int32-at-reads
 
--- src/lib.rt:187:11
 int32-at-requires : tie.Need-int32-at-requires
 int32-at-requires c κs = search needs
 
--- src/lib.rt:188:23
 enum-known-from : tie.Need-enum-known-from
 enum-known-from c = search needs
 
--- src/lib.rt:189:27
 enum-known-r : tie.Need-enum-known-r
 enum-known-r c = search needs
 
--- src/lib.rt:184:1
 returns : tie.Need-returns
 returns c = identifier-read (c .before .before .before .int32-at .ensures) (c .before .from .given .1) (c .known-told .given .1 .0 .1)
 
--- src/lib.rt:184:1
 returns-2 : tie.Need-returns-2
 returns-2 c = identifier-faulty (c .before .before .before .int32-at .ensures) (c .before .r .given .1)
 

@@ -7,59 +7,45 @@ use Rattle.decide.proofs.index_next.Lts as lts
 use Rattle.decide.proofs.out_of_bounds.Reads as out-of-bounds-reads
 use Rattle.integer.proofs.signed_at.Reads as signed-at-reads
 
--- src/lib.rt:278:11
 signed-at-requires : tie.Need-signed-at-requires
 signed-at-requires c κs = search needs
 
--- src/lib.rt:279:24
 enum-known-r : tie.Need-enum-known-r
 enum-known-r c = search needs
 
--- src/lib.rt:280:26
 enum-known-next : tie.Need-enum-known-next
 enum-known-next c = search needs
 
--- src/lib.rt:282:17
 returns : tie.Need-returns
 returns c = index-end (c .before .before .before .before .signed-at .ensures) (c .before .before .next .given .1) (c .if1 .taken)
 
--- src/lib.rt:284:24
 out-of-bounds-requires : tie.Need-out-of-bounds-requires
 out-of-bounds-requires c κs = search needs
 
--- src/lib.rt:286:26
 enum-known-next-2 : tie.Need-enum-known-next-2
 enum-known-next-2 c = search needs
 
--- src/lib.rt:288:35
 out-of-bounds-requires-2 : tie.Need-out-of-bounds-requires-2
 out-of-bounds-requires-2 c κs = search needs
 
--- src/lib.rt:288:17
 returns-2 : tie.Need-returns-2
 returns-2 c = rw (c .out-of-bounds2 .ensures) (index-low (c .before .before .before .before .before .signed-at .ensures) (c .before .before .before .next2 .given .1) (c .before .if2 .taken))
 
--- src/lib.rt:290:24
 cast-if3 : tie.Need-cast-if3
 cast-if3 c = search needs
 
--- src/lib.rt:291:35
 out-of-bounds-requires-3 : tie.Need-out-of-bounds-requires-3
 out-of-bounds-requires-3 c κs = search needs
 
--- src/lib.rt:291:17
 returns-3 : tie.Need-returns-3
 returns-3 c = rw (c .out-of-bounds3 .ensures) (index-high (c .before .before .before .before .before .before .signed-at .ensures) (c .before .before .before .before .next2 .given .1) (c .before .before .if2 .left) (c .before .if3 .taken))
 
--- src/lib.rt:275:1
 returns-4 : tie.Need-returns-4
 returns-4 c = index-faulty (c .before .before .before .signed-at .ensures) (c .before .r .given .1)
 
--- src/lib.rt:275:1
 returns-5 : tie.Need-returns-5
 returns-5 c = rw (c .out-of-bounds .ensures) (index-below (c .before .before .before .before .before .signed-at .ensures) (c .before .before .before .next .given .1) (c .before .if1 .left))
 
--- src/lib.rt:275:1
 returns-6 : tie.Need-returns-6
 returns-6 c = index-value (c .before .before .before .before .before .signed-at .ensures) (c .before .before .before .next2 .given .1) (c .before .if2 .left) (c .if3 .left)
 

@@ -3,11 +3,9 @@ use Rattle.decide.proofs.label_of.Tie as tie
 use Rattle.decide.proofs.label_of.Reads as reads
 use Rattle.decide.proofs.label_of.Lts as lts
 
--- src/lib.rt:304:9
 returns : tie.Need-returns
 returns c = rw (c .if1 .taken)
 
--- src/lib.rt:300:1
 returns-2 : tie.Need-returns-2
 returns-2 c = rw (c .if1 .left)
 

@@ -3,19 +3,15 @@ use Rattle.decide.proofs.Gates.{low-indexed, low-counted}
 use Rattle.decide.proofs.low_after.Statement.{statement}
 use Rattle.decide.proofs.low_after.Tie as tie
 
--- src/lib.rt:329:16
 add-result : tie.Need-add-result
 add-result c = record { fits = omega (arith, low-indexed (c .before .args .label) (c .before .args .low) (c .if1 .taken), c .before .pre) }
 
--- src/lib.rt:329:9
 returns : tie.Need-returns
 returns c = low-indexed _ _ (c .if1 .taken)
 
--- src/lib.rt:331:5
 add-result-2 : tie.Need-add-result-2
 add-result-2 c = record { fits = omega (arith, low-counted (c .before .args .label) (c .before .args .low) (c .if1 .left), c .before .pre) }
 
--- src/lib.rt:324:1
 returns-2 : tie.Need-returns-2
 returns-2 c = low-counted _ _ (c .if1 .left)
 

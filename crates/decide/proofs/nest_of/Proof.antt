@@ -8,59 +8,45 @@ use Rattle.decide.proofs.nest_of.Lts as lts
 use Rattle.decide.proofs.alike.Reads as alike-reads
 use Rattle.decide.proofs.form_of.Reads as form-of-reads
 
--- src/lib.rt:244:9
 form-of-requires : tie.Need-form-of-requires
 form-of-requires c κs = search needs
 
--- src/lib.rt:246:37
 enum-told : tie.Need-enum-told
 enum-told c = search needs
 
--- src/lib.rt:246:25
 alike-requires : tie.Need-alike-requires
 alike-requires c κs = search needs
 
--- src/lib.rt:248:24
 enum-told-2 : tie.Need-enum-told-2
 enum-told-2 c = search needs
 
--- src/lib.rt:248:20
 mul-t10 : tie.Need-mul-t10
 mul-t10 c = search needs
 
--- src/lib.rt:250:20
 form-of-requires-2 : tie.Need-form-of-requires-2
 form-of-requires-2 c κs = search needs
 
--- src/lib.rt:254:39
 enum-told-3 : tie.Need-enum-told-3
 enum-told-3 c = search needs
 
--- src/lib.rt:254:27
 alike-requires-2 : tie.Need-alike-requires-2
 alike-requires-2 c κs = search needs
 
--- src/lib.rt:255:31
 enum-told-4 : tie.Need-enum-told-4
 enum-told-4 c = search needs
 
--- src/lib.rt:255:25
 alike-requires-3 : tie.Need-alike-requires-3
 alike-requires-3 c κs = search needs
 
--- src/lib.rt:240:1
 returns : tie.Need-returns
 returns c = rw (c .before .enum-told .given .1, c .alike .ensures, c .before .before .before .form-of .ensures, held {w = w32} (c .before .before .before .before .fits .first))
 
--- src/lib.rt:240:1
 returns-2 : tie.Need-returns-2
 returns-2 c = rw (c .before .enum-told2 .given .1, c .before .before .before .form-of .ensures, c .form-of2 .ensures, held {w = w32} (c .before .before .before .before .fits .first), held {w = w32} (c .before .before .before .before .fits .second))
 
--- src/lib.rt:240:1
 returns-3 : tie.Need-returns-3
 returns-3 c = rw (c .before .enum-told3 .given .1, c .alike2 .ensures, c .before .before .before .form-of .ensures, held {w = w32} (c .before .before .before .before .fits .first))
 
--- src/lib.rt:240:1
 returns-4 : tie.Need-returns-4
 returns-4 c = rw (c .before .enum-told4 .given .1, c .alike3 .ensures)
 

@@ -7,23 +7,18 @@ use Rattle.decide.proofs.next_at.Lts as lts
 use Rattle.decide.proofs.index_next.Reads as index-next-reads
 use Rattle.decide.proofs.label_of.Reads as label-of-reads
 
--- src/lib.rt:315:9
 index-next-requires : tie.Need-index-next-requires
 index-next-requires c κs = search needs
 
--- src/lib.rt:315:9
 returns : tie.Need-returns
 returns c = next-index (c .before .if1 .taken) (c .index-next .ensures)
 
--- src/lib.rt:318:9
 returns-2 : tie.Need-returns-2
 returns-2 c = next-end (c .before .if1 .left) (c .before .before .before .pre) (c .if2 .taken)
 
--- src/lib.rt:320:21
 label-of-requires : tie.Need-label-of-requires
 label-of-requires c κs = search needs
 
--- src/lib.rt:310:1
 returns-3 : tie.Need-returns-3
 returns-3 c = next-value (c .before .before .if1 .left) (c .before .before .before .before .pre) (c .before .if2 .left) (c .label-of .ensures)
 

@@ -4,11 +4,9 @@ use Rattle.decide.proofs.turn_of.Tie as tie
 use Rattle.decide.proofs.turn_of.Reads as reads
 use Rattle.decide.proofs.turn_of.Lts as lts
 
--- src/lib.rt:339:9
 returns : tie.Need-returns
 returns c = rw (eq-eqb _ _ (c .if1 .taken))
 
--- src/lib.rt:335:1
 returns-2 : tie.Need-returns-2
 returns-2 c = rw (ne-eqb _ _ (c .if1 .left))
 

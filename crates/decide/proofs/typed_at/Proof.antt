@@ -6,19 +6,15 @@ use Rattle.decide.proofs.typed_at.Reads as reads
 use Rattle.decide.proofs.typed_at.Lts as lts
 use Rattle.decide.proofs.identifier_at.Reads as identifier-at-reads
 
--- src/lib.rt:199:20
 enum-known-form : tie.Need-enum-known-form
 enum-known-form c = search needs
 
--- src/lib.rt:200:14
 identifier-at-requires : tie.Need-identifier-at-requires
 identifier-at-requires c κs = search needs
 
--- src/lib.rt:194:1
 returns : tie.Need-returns
 returns c = typed-bare (c .before .form .given .1) (c .known-told .given .0 .1) (c .before .before .before .before .pre)
 
--- src/lib.rt:194:1
 returns-2 : tie.Need-returns-2
 returns-2 c = typed-else _ (c .before .match .keys2) (c .identifier-at .ensures)
 

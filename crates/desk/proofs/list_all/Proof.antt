@@ -19,71 +19,54 @@ Inv-loop src out₀ at₀ out at = (at ≤ length src) × (length out ≡ length
 abbrev μ-loop : tie.MeasureT-loop
 μ-loop src out₀ at₀ out at = length src - at
 
--- src/main.rt:18:5
 loop-holds : tie.Need-loop-holds Inv-loop μ-loop
 loop-holds c = search needs
 
--- src/main.rt:19:37
 sub-list-lines : tie.Need-sub-list-lines Inv-loop μ-loop
 sub-list-lines c = search needs
 
--- src/main.rt:19:37
 part-list-lines-start : tie.Need-part-list-lines-start Inv-loop μ-loop
 part-list-lines-start c = search needs
 
--- src/main.rt:19:37
 part-list-lines-end : tie.Need-part-list-lines-end Inv-loop μ-loop
 part-list-lines-end c = search needs
 
--- src/main.rt:19:13
 list-lines-requires : tie.Need-list-lines-requires Inv-loop μ-loop
 list-lines-requires c κs = search needs
 
--- src/main.rt:25:48
 slice-reshare-prefix-write-all : tie.Need-slice-reshare-prefix-write-all Inv-loop μ-loop
 slice-reshare-prefix-write-all c = omega (arith, c .before .before .before .list-lines .ensures .room, wrote-kept (c .before .before .before .list-lines .ensures .wrote))
 
--- src/main.rt:25:48
 slice-aggregate-write-all : tie.Need-slice-aggregate-write-all Inv-loop μ-loop
 slice-aggregate-write-all c = sym (length-take-le _ _ (omega (arith, c .before .before .before .before .list-lines .ensures .room, wrote-kept (c .before .before .before .before .list-lines .ensures .wrote))))
 
--- src/main.rt:25:13
 write-all-requires : tie.Need-write-all-requires Inv-loop μ-loop
 write-all-requires c κs = search needs
 
--- src/main.rt:26:13
 same-length : tie.Need-same-length Inv-loop μ-loop
 same-length c = omega (arith, wrote-kept (c .before .before .before .before .before .before .list-lines .ensures .wrote), c .before .before .before .before .before .before .before .before .before .before .loop .inv .1)
 
--- src/main.rt:26:13
 returns : tie.Need-returns Inv-loop μ-loop
 returns c = search needs
 
--- src/main.rt:28:9
 add-at : tie.Need-add-at Inv-loop μ-loop
 add-at c = omega (arith, rest-within (c .before .before .before .before .before .before .before .before .before .before .before .before .before .args .src .now) _ (c .before .before .before .before .before .before .before .before .before .before .loop .inv .0) (c .before .before .before .before .before .before .list-lines .ensures .within))
 
--- src/main.rt:18:5
 loop-less : tie.Need-loop-less Inv-loop μ-loop
 loop-less c = omega (arith, rest-within (c .before .before .before .before .before .before .before .before .before .before .before .before .before .args .src .now) _ (c .before .before .before .before .before .before .before .before .before .before .loop .inv .0) (c .before .before .before .before .before .before .list-lines .ensures .within), c .before .before .before .if1 .left)
 
--- src/main.rt:18:5
 loop-again : tie.Need-loop-again Inv-loop μ-loop
 loop-again c = (rest-within (c .before .before .before .before .before .before .before .before .before .before .before .before .before .args .src .now) _ (c .before .before .before .before .before .before .before .before .before .before .loop .inv .0) (c .before .before .before .before .before .before .list-lines .ensures .within), omega (arith, wrote-kept (c .before .before .before .before .before .before .list-lines .ensures .wrote), c .before .before .before .before .before .before .before .before .before .before .loop .inv .1))
 
--- src/main.rt:14:1
 same-length-2 : tie.Need-same-length-2 Inv-loop μ-loop
 same-length-2 c = search needs
 
--- src/main.rt:14:1
 returns-2 : tie.Need-returns-2 Inv-loop μ-loop
 returns-2 c = c .before .loop .inv .0
 
--- src/main.rt:14:1
 same-length-3 : tie.Need-same-length-3 Inv-loop μ-loop
 same-length-3 c = omega (arith, wrote-kept (c .before .before .before .list-lines .ensures .wrote), c .before .before .before .before .before .before .before .loop .inv .1)
 
--- src/main.rt:14:1
 returns-3 : tie.Need-returns-3 Inv-loop μ-loop
 returns-3 c = c .before .before .before .before .before .before .before .loop .inv .0
 

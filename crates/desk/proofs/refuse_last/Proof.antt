@@ -9,27 +9,21 @@ use Rattle.desk.proofs.refuse_last.Lts as lts
 use Rattle.io.proofs.write_all.Reads as write-all-reads
 use Rattle.text.proofs.put_refused.Reads as put-refused-reads
 
--- src/main.rt:37:9
 put-refused-requires : tie.Need-put-refused-requires
 put-refused-requires c κs = room-17 (c .before .before .pre)
 
--- src/main.rt:45:40
 slice-reshare-prefix-write-all : tie.Need-slice-reshare-prefix-write-all
 slice-reshare-prefix-write-all c = wrote-17 (c .before .before .before .before .before .pre) (c .before .before .put-refused .ensures)
 
--- src/main.rt:45:40
 slice-aggregate-write-all : tie.Need-slice-aggregate-write-all
 slice-aggregate-write-all c = sym (length-take-le _ _ (wrote-17 (c .before .before .before .before .before .before .pre) (c .before .before .before .put-refused .ensures)))
 
--- src/main.rt:45:5
 write-all-requires : tie.Need-write-all-requires
 write-all-requires c κs = search needs
 
--- src/main.rt:34:1
 same-length : tie.Need-same-length
 same-length c = search needs
 
--- src/main.rt:34:1
 returns : tie.Need-returns
 returns c = search needs
 

@@ -13,87 +13,66 @@ use Rattle.input.proofs.keep.Reads as keep-reads
 use Rattle.input.proofs.read_more.Reads as read-more-reads
 use Rattle.input.proofs.shorten.Reads as shorten-reads
 
--- src/main.rt:59:9
 read-more-requires : tie.Need-read-more-requires
 read-more-requires c κs = search needs
 
--- src/main.rt:62:13
 refuse-last-requires : tie.Need-refuse-last-requires
 refuse-last-requires c κs = search needs
 
--- src/main.rt:64:9
 same-length : tie.Need-same-length
 same-length c = search needs
 
--- src/main.rt:64:9
 same-length-2 : tie.Need-same-length-2
 same-length-2 c = search needs
 
--- src/main.rt:64:9
 returns : tie.Need-returns
 returns c = search needs
 
--- src/main.rt:64:9
 same-length-3 : tie.Need-same-length-3
 same-length-3 c = search needs
 
--- src/main.rt:64:9
 returns-2 : tie.Need-returns-2
 returns-2 c = search needs
 
--- src/main.rt:66:15
 add-end : tie.Need-add-end
 add-end c = search needs
 
--- src/main.rt:67:20
 slice-reshare-prefix-list-all : tie.Need-slice-reshare-prefix-list-all
 slice-reshare-prefix-list-all c = search needs
 
--- src/main.rt:67:20
 slice-aggregate-list-all : tie.Need-slice-aggregate-list-all
 slice-aggregate-list-all c = sym (length-take-le _ _ (omega arith))
 
--- src/main.rt:67:11
 list-all-requires : tie.Need-list-all-requires
 list-all-requires c κs = search needs
 
--- src/main.rt:68:25
 enum-told : tie.Need-enum-told
 enum-told c = search needs
 
--- src/main.rt:69:20
 enum-known-used : tie.Need-enum-known-used
 enum-known-used c = search needs
 
--- src/main.rt:70:17
 keep-requires : tie.Need-keep-requires
 keep-requires c κs = (front-within _ _ (omega arith) (rw (c .before .before .used .given .1) at (c .before .before .before .before .before .before .list-all .ensures)), omega arith)
 
--- src/main.rt:71:24
 shorten-requires : tie.Need-shorten-requires
 shorten-requires c κs = search needs
 
--- src/main.rt:55:1
 same-length-4 : tie.Need-same-length-4
 same-length-4 c = search needs
 
--- src/main.rt:55:1
 same-length-5 : tie.Need-same-length-5
 same-length-5 c = search needs
 
--- src/main.rt:55:1
 returns-3 : tie.Need-returns-3
 returns-3 c = search needs
 
--- src/main.rt:55:1
 same-length-6 : tie.Need-same-length-6
 same-length-6 c = search needs
 
--- src/main.rt:55:1
 same-length-7 : tie.Need-same-length-7
 same-length-7 c = search needs
 
--- src/main.rt:55:1
 returns-4 : tie.Need-returns-4
 returns-4 c = search needs
 

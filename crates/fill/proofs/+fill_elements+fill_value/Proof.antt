@@ -68,339 +68,255 @@ fill-elements-claims t = (next-at-reads.Asked, next-at-reads.Learnt, closed-row-
 abbrev fill-value-claims : ℕ → fill-value-lts.Claims
 fill-value-claims t = (row-at-reads.Asked, row-at-reads.Learnt, put-row-reads.Asked, put-row-reads.Learnt, fill-elements-below t, fill-elements.Post)
 
--- src/lib.rt:438:18
 fill-elements-cast-at : (t : ℕ) → fill-elements-lts.Need-cast-at (fill-elements-claims t) (fill-elements-at t) fill-elements.Post fill-elements-Inv-loop fill-elements-μ-loop
 fill-elements-cast-at t c = search needs
 
--- src/lib.rt:441:5
 fill-elements-loop-holds : (t : ℕ) → fill-elements-lts.Need-loop-holds (fill-elements-claims t) (fill-elements-at t) fill-elements.Post fill-elements-Inv-loop fill-elements-μ-loop
 fill-elements-loop-holds t c = turn-first (c .before .before .before .before .before .before .before .pre .1 .0)
 
--- src/lib.rt:442:15
 fill-elements-next-at-requires : (t : ℕ) → fill-elements-lts.Need-next-at-requires (fill-elements-claims t) (fill-elements-at t) fill-elements.Post fill-elements-Inv-loop fill-elements-μ-loop
 fill-elements-next-at-requires t c κs = c .loop .inv .inside
 
--- src/lib.rt:443:30
 fill-elements-enum-told : (t : ℕ) → fill-elements-lts.Need-enum-told (fill-elements-claims t) (fill-elements-at t) fill-elements.Post fill-elements-Inv-loop fill-elements-μ-loop
 fill-elements-enum-told t c = c .match .keys1
 
--- src/lib.rt:443:30
 fill-elements-same-length : (t : ℕ) → fill-elements-lts.Need-same-length (fill-elements-claims t) (fill-elements-at t) fill-elements.Post fill-elements-Inv-loop fill-elements-μ-loop
 fill-elements-same-length t c = c .before .before .before .loop .inv .kept .ty-kept
 
--- src/lib.rt:443:30
 fill-elements-same-length-2 : (t : ℕ) → fill-elements-lts.Need-same-length-2 (fill-elements-claims t) (fill-elements-at t) fill-elements.Post fill-elements-Inv-loop fill-elements-μ-loop
 fill-elements-same-length-2 t c = c .before .before .before .loop .inv .kept .own-kept
 
--- src/lib.rt:443:30
 fill-elements-same-length-3 : (t : ℕ) → fill-elements-lts.Need-same-length-3 (fill-elements-claims t) (fill-elements-at t) fill-elements.Post fill-elements-Inv-loop fill-elements-μ-loop
 fill-elements-same-length-3 t c = c .before .before .before .loop .inv .kept .label-kept
 
--- src/lib.rt:443:30
 fill-elements-same-length-4 : (t : ℕ) → fill-elements-lts.Need-same-length-4 (fill-elements-claims t) (fill-elements-at t) fill-elements.Post fill-elements-Inv-loop fill-elements-μ-loop
 fill-elements-same-length-4 t c = c .before .before .before .loop .inv .kept .number-kept
 
--- src/lib.rt:443:30
 fill-elements-same-length-5 : (t : ℕ) → fill-elements-lts.Need-same-length-5 (fill-elements-claims t) (fill-elements-at t) fill-elements.Post fill-elements-Inv-loop fill-elements-μ-loop
 fill-elements-same-length-5 t c = c .before .before .before .loop .inv .kept .first-kept
 
--- src/lib.rt:443:30
 fill-elements-same-length-6 : (t : ℕ) → fill-elements-lts.Need-same-length-6 (fill-elements-claims t) (fill-elements-at t) fill-elements.Post fill-elements-Inv-loop fill-elements-μ-loop
 fill-elements-same-length-6 t c = c .before .before .before .loop .inv .kept .second-kept
 
--- src/lib.rt:443:30
 fill-elements-same-length-7 : (t : ℕ) → fill-elements-lts.Need-same-length-7 (fill-elements-claims t) (fill-elements-at t) fill-elements.Post fill-elements-Inv-loop fill-elements-μ-loop
 fill-elements-same-length-7 t c = c .before .before .before .loop .inv .kept .place-kept
 
--- src/lib.rt:443:30
 fill-elements-same-length-8 : (t : ℕ) → fill-elements-lts.Need-same-length-8 (fill-elements-claims t) (fill-elements-at t) fill-elements.Post fill-elements-Inv-loop fill-elements-μ-loop
 fill-elements-same-length-8 t c = c .before .before .before .loop .inv .kept .below-kept
 
--- src/lib.rt:443:30
 fill-elements-same-length-9 : (t : ℕ) → fill-elements-lts.Need-same-length-9 (fill-elements-claims t) (fill-elements-at t) fill-elements.Post fill-elements-Inv-loop fill-elements-μ-loop
 fill-elements-same-length-9 t c = c .before .before .before .loop .inv .kept .start-kept
 
--- src/lib.rt:443:30
 fill-elements-same-length-10 : (t : ℕ) → fill-elements-lts.Need-same-length-10 (fill-elements-claims t) (fill-elements-at t) fill-elements.Post fill-elements-Inv-loop fill-elements-μ-loop
 fill-elements-same-length-10 t c = c .before .before .before .loop .inv .kept .end-kept
 
--- src/lib.rt:443:30
 fill-elements-returns : (t : ℕ) → fill-elements-lts.Need-returns (fill-elements-claims t) (fill-elements-at t) fill-elements.Post fill-elements-Inv-loop fill-elements-μ-loop
 fill-elements-returns t c = elements-unread (c .before .before .before .loop .inv) (c .before .before .next-at .ensures) refl (c .enum-told .given .1)
 
--- src/lib.rt:444:23
 fill-elements-enum-known-next : (t : ℕ) → fill-elements-lts.Need-enum-known-next (fill-elements-claims t) (fill-elements-at t) fill-elements.Post fill-elements-Inv-loop fill-elements-μ-loop
 fill-elements-enum-known-next t c = c .match .keys2
 
--- src/lib.rt:458:37
 fill-elements-sub-closed-row : (t : ℕ) → fill-elements-lts.Need-sub-closed-row (fill-elements-claims t) (fill-elements-at t) fill-elements.Post fill-elements-Inv-loop fill-elements-μ-loop
 fill-elements-sub-closed-row t c = turn-more (c .before .before .before .before .before .before .before .before .before .before .before .before .before .before .loop .inv)
 
--- src/lib.rt:458:21
 fill-elements-closed-row-requires : (t : ℕ) → fill-elements-lts.Need-closed-row-requires (fill-elements-claims t) (fill-elements-at t) fill-elements.Post fill-elements-Inv-loop fill-elements-μ-loop
 fill-elements-closed-row-requires t c κs = turn-ends (c .before .before .before .before .before .before .before .before .before .before .before .before .before .before .loop .inv) (c .before .before .before .before .before .before .before .before .before .before .before .before .before .before .before .before .before .before .before .before .before .before .pre .1 .0) (c .before .before .before .before .before .before .before .before .before .before .before .before .before .next-at .ensures) (c .before .before .before .before .before .before .before .before .before .before .before .next .given .1)
 
--- src/lib.rt:445:17
 fill-elements-put-row-requires : (t : ℕ) → fill-elements-lts.Need-put-row-requires (fill-elements-claims t) (fill-elements-at t) fill-elements.Post fill-elements-Inv-loop fill-elements-μ-loop
 fill-elements-put-row-requires t c κs = roomy (c .before .before .before .before .before .before .before .before .before .before .before .before .before .before .before .loop .inv .kept) (c .before .before .before .before .before .before .before .before .before .before .before .before .before .before .before .before .before .before .before .before .before .before .before .pre .1 .0 .room)
 
--- src/lib.rt:460:17
 fill-elements-same-length-11 : (t : ℕ) → fill-elements-lts.Need-same-length-11 (fill-elements-claims t) (fill-elements-at t) fill-elements.Post fill-elements-Inv-loop fill-elements-μ-loop
 fill-elements-same-length-11 t c = c .before .before .before .before .before .before .before .before .before .before .before .before .before .before .before .before .put-row .kept .0 ∙ c .before .before .before .before .before .before .before .before .before .before .before .before .before .before .before .before .before .before .before .before .before .before .before .before .before .before .before .before .before .before .before .before .loop .inv .kept .ty-kept
 
--- src/lib.rt:460:17
 fill-elements-same-length-12 : (t : ℕ) → fill-elements-lts.Need-same-length-12 (fill-elements-claims t) (fill-elements-at t) fill-elements.Post fill-elements-Inv-loop fill-elements-μ-loop
 fill-elements-same-length-12 t c = c .before .before .before .before .before .before .before .before .before .before .before .before .before .before .before .before .put-row .kept .1 .0 ∙ c .before .before .before .before .before .before .before .before .before .before .before .before .before .before .before .before .before .before .before .before .before .before .before .before .before .before .before .before .before .before .before .before .loop .inv .kept .own-kept
 
--- src/lib.rt:460:17
 fill-elements-same-length-13 : (t : ℕ) → fill-elements-lts.Need-same-length-13 (fill-elements-claims t) (fill-elements-at t) fill-elements.Post fill-elements-Inv-loop fill-elements-μ-loop
 fill-elements-same-length-13 t c = c .before .before .before .before .before .before .before .before .before .before .before .before .before .before .before .before .put-row .kept .1 .1 .0 ∙ c .before .before .before .before .before .before .before .before .before .before .before .before .before .before .before .before .before .before .before .before .before .before .before .before .before .before .before .before .before .before .before .before .loop .inv .kept .label-kept
 
--- src/lib.rt:460:17
 fill-elements-same-length-14 : (t : ℕ) → fill-elements-lts.Need-same-length-14 (fill-elements-claims t) (fill-elements-at t) fill-elements.Post fill-elements-Inv-loop fill-elements-μ-loop
 fill-elements-same-length-14 t c = c .before .before .before .before .before .before .before .before .before .before .before .before .before .before .before .before .put-row .kept .1 .1 .1 .0 ∙ c .before .before .before .before .before .before .before .before .before .before .before .before .before .before .before .before .before .before .before .before .before .before .before .before .before .before .before .before .before .before .before .before .loop .inv .kept .number-kept
 
--- src/lib.rt:460:17
 fill-elements-same-length-15 : (t : ℕ) → fill-elements-lts.Need-same-length-15 (fill-elements-claims t) (fill-elements-at t) fill-elements.Post fill-elements-Inv-loop fill-elements-μ-loop
 fill-elements-same-length-15 t c = c .before .before .before .before .before .before .before .before .before .before .before .before .before .before .before .before .put-row .kept .1 .1 .1 .1 .0 ∙ c .before .before .before .before .before .before .before .before .before .before .before .before .before .before .before .before .before .before .before .before .before .before .before .before .before .before .before .before .before .before .before .before .loop .inv .kept .first-kept
 
--- src/lib.rt:460:17
 fill-elements-same-length-16 : (t : ℕ) → fill-elements-lts.Need-same-length-16 (fill-elements-claims t) (fill-elements-at t) fill-elements.Post fill-elements-Inv-loop fill-elements-μ-loop
 fill-elements-same-length-16 t c = c .before .before .before .before .before .before .before .before .before .before .before .before .before .before .before .before .put-row .kept .1 .1 .1 .1 .1 .0 ∙ c .before .before .before .before .before .before .before .before .before .before .before .before .before .before .before .before .before .before .before .before .before .before .before .before .before .before .before .before .before .before .before .before .loop .inv .kept .second-kept
 
--- src/lib.rt:460:17
 fill-elements-same-length-17 : (t : ℕ) → fill-elements-lts.Need-same-length-17 (fill-elements-claims t) (fill-elements-at t) fill-elements.Post fill-elements-Inv-loop fill-elements-μ-loop
 fill-elements-same-length-17 t c = c .before .before .before .before .before .before .before .before .before .before .before .before .before .before .before .before .put-row .kept .1 .1 .1 .1 .1 .1 .0 ∙ c .before .before .before .before .before .before .before .before .before .before .before .before .before .before .before .before .before .before .before .before .before .before .before .before .before .before .before .before .before .before .before .before .loop .inv .kept .place-kept
 
--- src/lib.rt:460:17
 fill-elements-same-length-18 : (t : ℕ) → fill-elements-lts.Need-same-length-18 (fill-elements-claims t) (fill-elements-at t) fill-elements.Post fill-elements-Inv-loop fill-elements-μ-loop
 fill-elements-same-length-18 t c = c .before .before .before .before .before .before .before .before .before .before .before .before .before .before .before .before .put-row .kept .1 .1 .1 .1 .1 .1 .1 .0 ∙ c .before .before .before .before .before .before .before .before .before .before .before .before .before .before .before .before .before .before .before .before .before .before .before .before .before .before .before .before .before .before .before .before .loop .inv .kept .below-kept
 
--- src/lib.rt:460:17
 fill-elements-same-length-19 : (t : ℕ) → fill-elements-lts.Need-same-length-19 (fill-elements-claims t) (fill-elements-at t) fill-elements.Post fill-elements-Inv-loop fill-elements-μ-loop
 fill-elements-same-length-19 t c = c .before .before .before .before .before .before .before .before .before .before .before .before .before .before .before .before .put-row .kept .1 .1 .1 .1 .1 .1 .1 .1 .0 ∙ c .before .before .before .before .before .before .before .before .before .before .before .before .before .before .before .before .before .before .before .before .before .before .before .before .before .before .before .before .before .before .before .before .loop .inv .kept .start-kept
 
--- src/lib.rt:460:17
 fill-elements-same-length-20 : (t : ℕ) → fill-elements-lts.Need-same-length-20 (fill-elements-claims t) (fill-elements-at t) fill-elements.Post fill-elements-Inv-loop fill-elements-μ-loop
 fill-elements-same-length-20 t c = c .before .before .before .before .before .before .before .before .before .before .before .before .before .before .before .before .put-row .kept .1 .1 .1 .1 .1 .1 .1 .1 .1 .0 ∙ c .before .before .before .before .before .before .before .before .before .before .before .before .before .before .before .before .before .before .before .before .before .before .before .before .before .before .before .before .before .before .before .before .loop .inv .kept .end-kept
 
--- src/lib.rt:460:17
 fill-elements-returns-2 : (t : ℕ) → fill-elements-lts.Need-returns-2 (fill-elements-claims t) (fill-elements-at t) fill-elements.Post fill-elements-Inv-loop fill-elements-μ-loop
 fill-elements-returns-2 t c = elements-end (c .before .before .before .before .before .before .before .before .before .before .before .before .before .before .before .before .before .before .before .before .before .before .before .before .before .before .before .before .before .before .before .before .loop .inv) (c .before .before .before .before .before .before .before .before .before .before .before .before .before .before .before .before .before .before .before .before .before .before .before .before .before .before .before .before .before .before .before .next-at .ensures) refl (c .before .before .before .before .before .before .before .before .before .before .before .before .before .before .before .before .before .before .before .before .before .before .before .before .before .before .before .before .before .next .given .1) (stored-as (c .before .before .before .before .before .before .before .before .before .before .before .before .before .before .before .before .before .closed-row .ensures) (c .before .before .before .before .before .before .before .before .before .before .before .before .before .before .before .before .put-row .ensures))
 
--- src/lib.rt:462:25
 fill-elements-enum-known-next-2 : (t : ℕ) → fill-elements-lts.Need-enum-known-next-2 (fill-elements-claims t) (fill-elements-at t) fill-elements.Post fill-elements-Inv-loop fill-elements-μ-loop
 fill-elements-enum-known-next-2 t c = c .match .keys3
 
--- src/lib.rt:475:17
 fill-elements-turn-of-requires : (t : ℕ) → fill-elements-lts.Need-turn-of-requires (fill-elements-claims t) (fill-elements-at t) fill-elements.Post fill-elements-Inv-loop fill-elements-μ-loop
 fill-elements-turn-of-requires t c κs = search needs
 
--- src/lib.rt:462:46
 fill-elements-fill-value-requires : (t : ℕ) → fill-elements-lts.Need-fill-value-requires (fill-elements-claims t) (fill-elements-at t) fill-elements.Post fill-elements-Inv-loop fill-elements-μ-loop
 fill-elements-fill-value-requires t c κs = (rises _ (c .before .before .before .before .before .before .before .before .before .before .before .before .before .before .before .before .before .before .before .before .before .before .before .pre .0), turn-ready (c .before .before .before .before .before .before .before .before .before .before .before .before .before .before .before .loop .inv) (c .before .before .before .before .before .before .before .before .before .before .before .before .before .before .before .before .before .before .before .before .before .before .before .pre .1 .0) (c .before .before .before .before .before .before .before .before .before .before .before .before .before .before .next-at .ensures) (c .before .before .before .before .before .before .before .before .before .before .before .before .next2 .given .1))
 
--- src/lib.rt:481:33
 fill-elements-enum-told-2 : (t : ℕ) → fill-elements-lts.Need-enum-told-2 (fill-elements-claims t) (fill-elements-at t) fill-elements.Post fill-elements-Inv-loop fill-elements-μ-loop
 fill-elements-enum-told-2 t c = c .match2 .keys1
 
--- src/lib.rt:481:33
 fill-elements-same-length-21 : (t : ℕ) → fill-elements-lts.Need-same-length-21 (fill-elements-claims t) (fill-elements-at t) fill-elements.Post fill-elements-Inv-loop fill-elements-μ-loop
 fill-elements-same-length-21 t c = c .before .before .before .before .before .before .before .before .before .before .before .before .before .before .before .before .before .before .fill-value .kept .1 .0 ∙ c .before .before .before .before .before .before .before .before .before .before .before .before .before .before .before .before .before .before .before .before .before .before .before .before .before .before .before .before .before .before .before .before .before .before .loop .inv .kept .ty-kept
 
--- src/lib.rt:481:33
 fill-elements-same-length-22 : (t : ℕ) → fill-elements-lts.Need-same-length-22 (fill-elements-claims t) (fill-elements-at t) fill-elements.Post fill-elements-Inv-loop fill-elements-μ-loop
 fill-elements-same-length-22 t c = c .before .before .before .before .before .before .before .before .before .before .before .before .before .before .before .before .before .before .fill-value .kept .1 .1 .0 ∙ c .before .before .before .before .before .before .before .before .before .before .before .before .before .before .before .before .before .before .before .before .before .before .before .before .before .before .before .before .before .before .before .before .before .before .loop .inv .kept .own-kept
 
--- src/lib.rt:481:33
 fill-elements-same-length-23 : (t : ℕ) → fill-elements-lts.Need-same-length-23 (fill-elements-claims t) (fill-elements-at t) fill-elements.Post fill-elements-Inv-loop fill-elements-μ-loop
 fill-elements-same-length-23 t c = c .before .before .before .before .before .before .before .before .before .before .before .before .before .before .before .before .before .before .fill-value .kept .1 .1 .1 .0 ∙ c .before .before .before .before .before .before .before .before .before .before .before .before .before .before .before .before .before .before .before .before .before .before .before .before .before .before .before .before .before .before .before .before .before .before .loop .inv .kept .label-kept
 
--- src/lib.rt:481:33
 fill-elements-same-length-24 : (t : ℕ) → fill-elements-lts.Need-same-length-24 (fill-elements-claims t) (fill-elements-at t) fill-elements.Post fill-elements-Inv-loop fill-elements-μ-loop
 fill-elements-same-length-24 t c = c .before .before .before .before .before .before .before .before .before .before .before .before .before .before .before .before .before .before .fill-value .kept .1 .1 .1 .1 .0 ∙ c .before .before .before .before .before .before .before .before .before .before .before .before .before .before .before .before .before .before .before .before .before .before .before .before .before .before .before .before .before .before .before .before .before .before .loop .inv .kept .number-kept
 
--- src/lib.rt:481:33
 fill-elements-same-length-25 : (t : ℕ) → fill-elements-lts.Need-same-length-25 (fill-elements-claims t) (fill-elements-at t) fill-elements.Post fill-elements-Inv-loop fill-elements-μ-loop
 fill-elements-same-length-25 t c = c .before .before .before .before .before .before .before .before .before .before .before .before .before .before .before .before .before .before .fill-value .kept .1 .1 .1 .1 .1 .0 ∙ c .before .before .before .before .before .before .before .before .before .before .before .before .before .before .before .before .before .before .before .before .before .before .before .before .before .before .before .before .before .before .before .before .before .before .loop .inv .kept .first-kept
 
--- src/lib.rt:481:33
 fill-elements-same-length-26 : (t : ℕ) → fill-elements-lts.Need-same-length-26 (fill-elements-claims t) (fill-elements-at t) fill-elements.Post fill-elements-Inv-loop fill-elements-μ-loop
 fill-elements-same-length-26 t c = c .before .before .before .before .before .before .before .before .before .before .before .before .before .before .before .before .before .before .fill-value .kept .1 .1 .1 .1 .1 .1 .0 ∙ c .before .before .before .before .before .before .before .before .before .before .before .before .before .before .before .before .before .before .before .before .before .before .before .before .before .before .before .before .before .before .before .before .before .before .loop .inv .kept .second-kept
 
--- src/lib.rt:481:33
 fill-elements-same-length-27 : (t : ℕ) → fill-elements-lts.Need-same-length-27 (fill-elements-claims t) (fill-elements-at t) fill-elements.Post fill-elements-Inv-loop fill-elements-μ-loop
 fill-elements-same-length-27 t c = c .before .before .before .before .before .before .before .before .before .before .before .before .before .before .before .before .before .before .fill-value .kept .1 .1 .1 .1 .1 .1 .1 .0 ∙ c .before .before .before .before .before .before .before .before .before .before .before .before .before .before .before .before .before .before .before .before .before .before .before .before .before .before .before .before .before .before .before .before .before .before .loop .inv .kept .place-kept
 
--- src/lib.rt:481:33
 fill-elements-same-length-28 : (t : ℕ) → fill-elements-lts.Need-same-length-28 (fill-elements-claims t) (fill-elements-at t) fill-elements.Post fill-elements-Inv-loop fill-elements-μ-loop
 fill-elements-same-length-28 t c = c .before .before .before .before .before .before .before .before .before .before .before .before .before .before .before .before .before .before .fill-value .kept .1 .1 .1 .1 .1 .1 .1 .1 .0 ∙ c .before .before .before .before .before .before .before .before .before .before .before .before .before .before .before .before .before .before .before .before .before .before .before .before .before .before .before .before .before .before .before .before .before .before .loop .inv .kept .below-kept
 
--- src/lib.rt:481:33
 fill-elements-same-length-29 : (t : ℕ) → fill-elements-lts.Need-same-length-29 (fill-elements-claims t) (fill-elements-at t) fill-elements.Post fill-elements-Inv-loop fill-elements-μ-loop
 fill-elements-same-length-29 t c = c .before .before .before .before .before .before .before .before .before .before .before .before .before .before .before .before .before .before .fill-value .kept .1 .1 .1 .1 .1 .1 .1 .1 .1 .0 ∙ c .before .before .before .before .before .before .before .before .before .before .before .before .before .before .before .before .before .before .before .before .before .before .before .before .before .before .before .before .before .before .before .before .before .before .loop .inv .kept .start-kept
 
--- src/lib.rt:481:33
 fill-elements-same-length-30 : (t : ℕ) → fill-elements-lts.Need-same-length-30 (fill-elements-claims t) (fill-elements-at t) fill-elements.Post fill-elements-Inv-loop fill-elements-μ-loop
 fill-elements-same-length-30 t c = c .before .before .before .before .before .before .before .before .before .before .before .before .before .before .before .before .before .before .fill-value .kept .1 .1 .1 .1 .1 .1 .1 .1 .1 .1 .0 ∙ c .before .before .before .before .before .before .before .before .before .before .before .before .before .before .before .before .before .before .before .before .before .before .before .before .before .before .before .before .before .before .before .before .before .before .loop .inv .kept .end-kept
 
--- src/lib.rt:481:33
 fill-elements-returns-3 : (t : ℕ) → fill-elements-lts.Need-returns-3 (fill-elements-claims t) (fill-elements-at t) fill-elements.Post fill-elements-Inv-loop fill-elements-μ-loop
 fill-elements-returns-3 t c = elements-stop (c .before .before .before .before .before .before .before .before .before .before .before .before .before .before .before .before .before .before .before .before .before .before .before .before .before .before .before .before .before .before .before .before .before .before .loop .inv) (c .before .before .before .before .before .before .before .before .before .before .before .before .before .before .before .before .before .before .before .before .before .before .before .before .before .before .before .before .before .before .before .before .before .next-at .ensures) (c .before .before .before .before .before .before .before .before .before .before .before .before .before .before .before .before .before .before .before .before .before .before .before .before .before .before .before .before .before .before .before .next2 .given .1) (turned (c .before .before .before .before .before .before .before .before .before .before .before .before .before .before .before .before .before .before .before .turn-of .ensures) (c .before .before .before .before .before .before .before .before .before .before .before .before .before .before .before .before .before .before .fill-value .ensures)) refl (c .enum-told2 .given .1)
 
--- src/lib.rt:482:26
 fill-elements-enum-known-at2 : (t : ℕ) → fill-elements-lts.Need-enum-known-at2 (fill-elements-claims t) (fill-elements-at t) fill-elements.Post fill-elements-Inv-loop fill-elements-μ-loop
 fill-elements-enum-known-at2 t c = c .match2 .keys2
 
--- src/lib.rt:485:21
 fill-elements-low-after-requires : (t : ℕ) → fill-elements-lts.Need-low-after-requires (fill-elements-claims t) (fill-elements-at t) fill-elements.Post fill-elements-Inv-loop fill-elements-μ-loop
 fill-elements-low-after-requires t c κs = turn-low (c .before .before .before .before .before .before .before .before .before .before .before .before .before .before .before .before .before .before .before .before .before .before .before .before .before .before .before .before .before .before .before .before .before .before .before .loop .inv) (c .before .before .before .before .before .before .before .before .before .before .before .before .before .before .before .before .before .before .before .before .before .before .before .before .before .before .before .before .before .before .before .before .before .before .before .before .before .before .before .before .before .before .before .pre .1 .0) (c .before .before .before .before .before .before .before .before .before .before .before .before .before .before .before .before .before .before .before .before .before .before .before .before .before .before .before .before .before .before .before .before .before .before .next-at .ensures) (c .before .before .before .before .before .before .before .before .before .before .before .before .before .before .before .before .before .before .before .before .before .before .before .before .before .before .before .before .before .before .before .before .next2 .given .1) (c .before .before .before .before .before .before .before .before .before .before .before .before .before .before .before .before .before .before .before .before .before .before .before .before .before .before .before .before .before .before .before .before .before .before .before .before .before .before .before .before .before .before .before .pre .1 .1)
 
--- src/lib.rt:441:5
 fill-elements-loop-less : (t : ℕ) → fill-elements-lts.Need-loop-less (fill-elements-claims t) (fill-elements-at t) fill-elements.Post fill-elements-Inv-loop fill-elements-μ-loop
 fill-elements-loop-less t c = turn-less (c .before .before .before .before .before .before .before .before .before .before .before .before .before .before .before .before .before .before .before .before .before .before .before .before .before .before .before .before .before .before .before .before .before .before .before .before .loop .inv) (c .before .before .before .before .before .before .before .before .before .before .before .before .before .before .before .before .before .before .before .before .before .before .before .before .before .before .before .before .before .before .before .before .before .before .before .next-at .ensures) (c .before .before .before .before .before .before .before .before .before .before .before .before .before .before .before .before .before .before .before .before .before .before .before .before .before .before .before .before .before .before .before .before .before .next2 .given .1) (turned (c .before .before .before .before .before .before .before .before .before .before .before .before .before .before .before .before .before .before .before .before .before .turn-of .ensures) (c .before .before .before .before .before .before .before .before .before .before .before .before .before .before .before .before .before .before .before .before .fill-value .ensures)) (c .low-after .ensures)
 
--- src/lib.rt:441:5
 fill-elements-loop-again : (t : ℕ) → fill-elements-lts.Need-loop-again (fill-elements-claims t) (fill-elements-at t) fill-elements.Post fill-elements-Inv-loop fill-elements-μ-loop
 fill-elements-loop-again t c = turn-again (c .before .before .before .before .before .before .before .before .before .before .before .before .before .before .before .before .before .before .before .before .before .before .before .before .before .before .before .before .before .before .before .before .before .before .before .before .loop .inv) (c .before .before .before .before .before .before .before .before .before .before .before .before .before .before .before .before .before .before .before .before .before .before .before .before .before .before .before .before .before .before .before .before .before .before .before .next-at .ensures) (c .before .before .before .before .before .before .before .before .before .before .before .before .before .before .before .before .before .before .before .before .before .before .before .before .before .before .before .before .before .before .before .before .before .next2 .given .1) (turned (c .before .before .before .before .before .before .before .before .before .before .before .before .before .before .before .before .before .before .before .before .before .turn-of .ensures) (c .before .before .before .before .before .before .before .before .before .before .before .before .before .before .before .before .before .before .before .before .fill-value .ensures)) (c .before .before .at2 .given .1) (c .low-after .ensures) (record { ty-kept = c .before .before .before .before .before .before .before .before .before .before .before .before .before .before .before .before .before .before .before .before .fill-value .kept .1 .0; own-kept = c .before .before .before .before .before .before .before .before .before .before .before .before .before .before .before .before .before .before .before .before .fill-value .kept .1 .1 .0; label-kept = c .before .before .before .before .before .before .before .before .before .before .before .before .before .before .before .before .before .before .before .before .fill-value .kept .1 .1 .1 .0; number-kept = c .before .before .before .before .before .before .before .before .before .before .before .before .before .before .before .before .before .before .before .before .fill-value .kept .1 .1 .1 .1 .0; first-kept = c .before .before .before .before .before .before .before .before .before .before .before .before .before .before .before .before .before .before .before .before .fill-value .kept .1 .1 .1 .1 .1 .0; second-kept = c .before .before .before .before .before .before .before .before .before .before .before .before .before .before .before .before .before .before .before .before .fill-value .kept .1 .1 .1 .1 .1 .1 .0; place-kept = c .before .before .before .before .before .before .before .before .before .before .before .before .before .before .before .before .before .before .before .before .fill-value .kept .1 .1 .1 .1 .1 .1 .1 .0; below-kept = c .before .before .before .before .before .before .before .before .before .before .before .before .before .before .before .before .before .before .before .before .fill-value .kept .1 .1 .1 .1 .1 .1 .1 .1 .0; start-kept = c .before .before .before .before .before .before .before .before .before .before .before .before .before .before .before .before .before .before .before .before .fill-value .kept .1 .1 .1 .1 .1 .1 .1 .1 .1 .0; end-kept = c .before .before .before .before .before .before .before .before .before .before .before .before .before .before .before .before .before .before .before .before .fill-value .kept .1 .1 .1 .1 .1 .1 .1 .1 .1 .1 .0 })
 
--- src/lib.rt:359:9
 fill-value-returns : (t : ℕ) → fill-value-lts.Need-returns (fill-value-claims t) (fill-value-at t) fill-value.Post
 fill-value-returns t c = value-crowded (c .if1 .taken)
 
--- src/lib.rt:361:11
 fill-value-row-at-requires : (t : ℕ) → fill-value-lts.Need-row-at-requires (fill-value-claims t) (fill-value-at t) fill-value.Post
 fill-value-row-at-requires t c κs = (c .before .before .before .before .before .before .before .before .pre .1 .inside, c .before .before .before .before .before .before .before .before .pre .1 .short)
 
--- src/lib.rt:362:26
 fill-value-enum-told : (t : ℕ) → fill-value-lts.Need-enum-told (fill-value-claims t) (fill-value-at t) fill-value.Post
 fill-value-enum-told t c = c .match .keys1
 
--- src/lib.rt:363:21
 fill-value-enum-known-row : (t : ℕ) → fill-value-lts.Need-enum-known-row (fill-value-claims t) (fill-value-at t) fill-value.Post
 fill-value-enum-known-row t c = c .match .keys2
 
--- src/lib.rt:365:13
 fill-value-put-row-requires : (t : ℕ) → fill-value-lts.Need-put-row-requires (fill-value-claims t) (fill-value-at t) fill-value.Post
 fill-value-put-row-requires t c κs = c .before .before .before .before .before .before .before .before .before .before .before .before .before .before .before .before .before .before .before .before .before .before .pre .1 .room
 
--- src/lib.rt:380:22
 fill-value-cast-t46 : (t : ℕ) → fill-value-lts.Need-cast-t46 (fill-value-claims t) (fill-value-at t) fill-value.Post
 fill-value-cast-t46 t c = record { fits = leaf-end (c .before .before .before .before .before .before .before .before .before .before .before .before .before .before .before .before .before .before .before .before .before .before .before .before .before .before .before .before .before .before .row-at .ensures) (c .before .before .before .before .before .before .before .before .before .before .before .before .before .before .before .before .before .before .before .before .before .before .before .before .before .before .before .before .row .given .1) (c .before .before .before .before .before .before .before .before .before .before .before .before .before .before .before .before .before .before .before .before .before .before .before .before .before .before .before .before .before .before .before .before .before .before .before .before .before .before .before .pre .1) }
 
--- src/lib.rt:380:37
 fill-value-add-t47 : (t : ℕ) → fill-value-lts.Need-add-t47 (fill-value-claims t) (fill-value-at t) fill-value.Post
 fill-value-add-t47 t c = record { fits = one-row (c .before .before .before .before .before .before .before .before .before .before .before .before .before .before .before .before .before .before .before .before .before .before .before .before .before .before .before .before .before .before .before .before .before .before .before .before .before .before .before .pre .1) }
 
--- src/lib.rt:382:23
 fill-value-enum-known-row-2 : (t : ℕ) → fill-value-lts.Need-enum-known-row-2 (fill-value-claims t) (fill-value-at t) fill-value.Post
 fill-value-enum-known-row-2 t c = c .match .keys3
 
--- src/lib.rt:384:17
 fill-value-returns-2 : (t : ℕ) → fill-value-lts.Need-returns-2 (fill-value-claims t) (fill-value-at t) fill-value.Post
 fill-value-returns-2 t c = value-deep (c .before .before .before .before .row-at .ensures) (c .before .before .row2 .given .1) (c .if2 .taken)
 
--- src/lib.rt:402:17
 fill-value-add-fill-elements : (t : ℕ) → fill-value-lts.Need-add-fill-elements (fill-value-claims t) (fill-value-at t) fill-value.Post
 fill-value-add-fill-elements t c = record { fits = one-row (c .before .before .before .before .before .before .before .before .before .before .before .before .before .before .before .before .before .before .before .before .before .before .before .pre .1) }
 
--- src/lib.rt:403:17
 fill-value-sub-fill-elements : (t : ℕ) → fill-value-lts.Need-sub-fill-elements (fill-value-claims t) (fill-value-at t) fill-value.Post
 fill-value-sub-fill-elements t c = take-one (c .before .before .before .before .before .before .before .before .before .before .if2 .left)
 
--- src/lib.rt:386:13
 fill-value-fill-elements-requires : (t : ℕ) → fill-value-lts.Need-fill-elements-requires (fill-value-claims t) (fill-value-at t) fill-value.Post
 fill-value-fill-elements-requires t c κs = (sinks _ (c .before .before .before .before .before .before .before .before .before .before .before .before .before .before .before .before .before .before .before .before .before .before .before .pre .0) (c .before .before .before .before .before .before .before .before .before .before .if2 .left), holder-ready (c .before .before .before .before .before .before .before .before .before .before .before .before .before .before .row-at .ensures) (c .before .before .before .before .before .before .before .before .before .before .before .before .row2 .given .1) (c .before .before .before .before .before .before .before .before .before .before .before .before .before .before .before .if1 .left) (c .before .before .before .before .before .before .before .before .before .before .before .before .before .before .before .before .before .before .before .before .before .before .before .pre .1))
 
--- src/lib.rt:336:1
 fill-value-returns-3 : (t : ℕ) → fill-value-lts.Need-returns-3 (fill-value-claims t) (fill-value-at t) fill-value.Post
 fill-value-returns-3 t c = value-unread (c .before .before .row-at .ensures) (c .enum-told .given .1)
 
--- src/lib.rt:336:1
 fill-value-same-length : (t : ℕ) → fill-value-lts.Need-same-length (fill-value-claims t) (fill-value-at t) fill-value.Post
 fill-value-same-length t c = c .before .before .before .before .before .before .before .before .before .before .before .before .before .before .before .before .put-row .kept .0
 
--- src/lib.rt:336:1
 fill-value-same-length-2 : (t : ℕ) → fill-value-lts.Need-same-length-2 (fill-value-claims t) (fill-value-at t) fill-value.Post
 fill-value-same-length-2 t c = c .before .before .before .before .before .before .before .before .before .before .before .before .before .before .before .before .put-row .kept .1 .0
 
--- src/lib.rt:336:1
 fill-value-same-length-3 : (t : ℕ) → fill-value-lts.Need-same-length-3 (fill-value-claims t) (fill-value-at t) fill-value.Post
 fill-value-same-length-3 t c = c .before .before .before .before .before .before .before .before .before .before .before .before .before .before .before .before .put-row .kept .1 .1 .0
 
--- src/lib.rt:336:1
 fill-value-same-length-4 : (t : ℕ) → fill-value-lts.Need-same-length-4 (fill-value-claims t) (fill-value-at t) fill-value.Post
 fill-value-same-length-4 t c = c .before .before .before .before .before .before .before .before .before .before .before .before .before .before .before .before .put-row .kept .1 .1 .1 .0
 
--- src/lib.rt:336:1
 fill-value-same-length-5 : (t : ℕ) → fill-value-lts.Need-same-length-5 (fill-value-claims t) (fill-value-at t) fill-value.Post
 fill-value-same-length-5 t c = c .before .before .before .before .before .before .before .before .before .before .before .before .before .before .before .before .put-row .kept .1 .1 .1 .1 .0
 
--- src/lib.rt:336:1
 fill-value-same-length-6 : (t : ℕ) → fill-value-lts.Need-same-length-6 (fill-value-claims t) (fill-value-at t) fill-value.Post
 fill-value-same-length-6 t c = c .before .before .before .before .before .before .before .before .before .before .before .before .before .before .before .before .put-row .kept .1 .1 .1 .1 .1 .0
 
--- src/lib.rt:336:1
 fill-value-same-length-7 : (t : ℕ) → fill-value-lts.Need-same-length-7 (fill-value-claims t) (fill-value-at t) fill-value.Post
 fill-value-same-length-7 t c = c .before .before .before .before .before .before .before .before .before .before .before .before .before .before .before .before .put-row .kept .1 .1 .1 .1 .1 .1 .0
 
--- src/lib.rt:336:1
 fill-value-same-length-8 : (t : ℕ) → fill-value-lts.Need-same-length-8 (fill-value-claims t) (fill-value-at t) fill-value.Post
 fill-value-same-length-8 t c = c .before .before .before .before .before .before .before .before .before .before .before .before .before .before .before .before .put-row .kept .1 .1 .1 .1 .1 .1 .1 .0
 
--- src/lib.rt:336:1
 fill-value-same-length-9 : (t : ℕ) → fill-value-lts.Need-same-length-9 (fill-value-claims t) (fill-value-at t) fill-value.Post
 fill-value-same-length-9 t c = c .before .before .before .before .before .before .before .before .before .before .before .before .before .before .before .before .put-row .kept .1 .1 .1 .1 .1 .1 .1 .1 .0
 
--- src/lib.rt:336:1
 fill-value-same-length-10 : (t : ℕ) → fill-value-lts.Need-same-length-10 (fill-value-claims t) (fill-value-at t) fill-value.Post
 fill-value-same-length-10 t c = c .before .before .before .before .before .before .before .before .before .before .before .before .before .before .before .before .put-row .kept .1 .1 .1 .1 .1 .1 .1 .1 .1 .0
 
--- src/lib.rt:336:1
 fill-value-returns-4 : (t : ℕ) → fill-value-lts.Need-returns-4 (fill-value-claims t) (fill-value-at t) fill-value.Post
 fill-value-returns-4 t c = value-leaf (c .before .before .before .before .before .before .before .before .before .before .before .before .before .before .before .before .before .before .before .before .before .before .before .before .before .before .before .before .before .before .row-at .ensures) (c .before .before .before .before .before .before .before .before .before .before .before .before .before .before .before .before .before .before .before .before .before .before .before .before .before .before .before .before .row .given .1) (c .before .before .before .before .before .before .before .before .before .before .before .before .before .before .before .before .before .before .before .before .before .before .before .before .before .before .before .before .before .before .before .if1 .left) (c .before .before .before .before .before .before .before .before .before .before .before .before .before .before .before .before .put-row .ensures)
 
--- src/lib.rt:336:1
 fill-value-same-length-11 : (t : ℕ) → fill-value-lts.Need-same-length-11 (fill-value-claims t) (fill-value-at t) fill-value.Post
 fill-value-same-length-11 t c = c .before .before .before .before .before .before .before .before .before .before .before .before .before .before .before .before .fill-elements .kept .1 .0
 
--- src/lib.rt:336:1
 fill-value-same-length-12 : (t : ℕ) → fill-value-lts.Need-same-length-12 (fill-value-claims t) (fill-value-at t) fill-value.Post
 fill-value-same-length-12 t c = c .before .before .before .before .before .before .before .before .before .before .before .before .before .before .before .before .fill-elements .kept .1 .1 .0
 
--- src/lib.rt:336:1
 fill-value-same-length-13 : (t : ℕ) → fill-value-lts.Need-same-length-13 (fill-value-claims t) (fill-value-at t) fill-value.Post
 fill-value-same-length-13 t c = c .before .before .before .before .before .before .before .before .before .before .before .before .before .before .before .before .fill-elements .kept .1 .1 .1 .0
 
--- src/lib.rt:336:1
 fill-value-same-length-14 : (t : ℕ) → fill-value-lts.Need-same-length-14 (fill-value-claims t) (fill-value-at t) fill-value.Post
 fill-value-same-length-14 t c = c .before .before .before .before .before .before .before .before .before .before .before .before .before .before .before .before .fill-elements .kept .1 .1 .1 .1 .0
 
--- src/lib.rt:336:1
 fill-value-same-length-15 : (t : ℕ) → fill-value-lts.Need-same-length-15 (fill-value-claims t) (fill-value-at t) fill-value.Post
 fill-value-same-length-15 t c = c .before .before .before .before .before .before .before .before .before .before .before .before .before .before .before .before .fill-elements .kept .1 .1 .1 .1 .1 .0
 
--- src/lib.rt:336:1
 fill-value-same-length-16 : (t : ℕ) → fill-value-lts.Need-same-length-16 (fill-value-claims t) (fill-value-at t) fill-value.Post
 fill-value-same-length-16 t c = c .before .before .before .before .before .before .before .before .before .before .before .before .before .before .before .before .fill-elements .kept .1 .1 .1 .1 .1 .1 .0
 
--- src/lib.rt:336:1
 fill-value-same-length-17 : (t : ℕ) → fill-value-lts.Need-same-length-17 (fill-value-claims t) (fill-value-at t) fill-value.Post
 fill-value-same-length-17 t c = c .before .before .before .before .before .before .before .before .before .before .before .before .before .before .before .before .fill-elements .kept .1 .1 .1 .1 .1 .1 .1 .0
 
--- src/lib.rt:336:1
 fill-value-same-length-18 : (t : ℕ) → fill-value-lts.Need-same-length-18 (fill-value-claims t) (fill-value-at t) fill-value.Post
 fill-value-same-length-18 t c = c .before .before .before .before .before .before .before .before .before .before .before .before .before .before .before .before .fill-elements .kept .1 .1 .1 .1 .1 .1 .1 .1 .0
 
--- src/lib.rt:336:1
 fill-value-same-length-19 : (t : ℕ) → fill-value-lts.Need-same-length-19 (fill-value-claims t) (fill-value-at t) fill-value.Post
 fill-value-same-length-19 t c = c .before .before .before .before .before .before .before .before .before .before .before .before .before .before .before .before .fill-elements .kept .1 .1 .1 .1 .1 .1 .1 .1 .1 .0
 
--- src/lib.rt:336:1
 fill-value-same-length-20 : (t : ℕ) → fill-value-lts.Need-same-length-20 (fill-value-claims t) (fill-value-at t) fill-value.Post
 fill-value-same-length-20 t c = c .before .before .before .before .before .before .before .before .before .before .before .before .before .before .before .before .fill-elements .kept .1 .1 .1 .1 .1 .1 .1 .1 .1 .1 .0
 
--- src/lib.rt:336:1
 fill-value-returns-5 : (t : ℕ) → fill-value-lts.Need-returns-5 (fill-value-claims t) (fill-value-at t) fill-value.Post
 fill-value-returns-5 t c = value-holder (c .before .before .before .before .before .before .before .before .before .before .before .before .before .before .before .before .before .before .before .before .before .before .before .before .before .before .before .before .before .before .before .row-at .ensures) (c .before .before .before .before .before .before .before .before .before .before .before .before .before .before .before .before .before .before .before .before .before .before .before .before .before .before .before .before .before .row2 .given .1) (c .before .before .before .before .before .before .before .before .before .before .before .before .before .before .before .before .before .before .before .before .before .before .before .before .before .before .before .if2 .left) (c .before .before .before .before .before .before .before .before .before .before .before .before .before .before .before .before .fill-elements .ensures)
 

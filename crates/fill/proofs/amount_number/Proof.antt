@@ -6,27 +6,21 @@ use Rattle.fill.proofs.amount_number.Reads as reads
 use Rattle.fill.proofs.amount_number.Lts as lts
 use Rattle.decide.proofs.amount_at.Reads as amount-at-reads
 
--- src/lib.rt:146:11
 amount-at-requires : tie.Need-amount-at-requires
 amount-at-requires c κs = search needs
 
--- src/lib.rt:147:24
 enum-known-next : tie.Need-enum-known-next
 enum-known-next c = search needs
 
--- src/lib.rt:147:59
 cast-t7 : tie.Need-cast-t7
 cast-t7 c = search needs
 
--- src/lib.rt:148:32
 enum-told : tie.Need-enum-told
 enum-told c = search needs
 
--- src/lib.rt:143:1
 returns : tie.Need-returns
 returns c = amount-number (c .before .before .before .amount-at .ensures) (c .before .next .given .1)
 
--- src/lib.rt:143:1
 returns-2 : tie.Need-returns-2
 returns-2 c = amount-missing (c .before .before .amount-at .ensures) (c .enum-told .given .1)
 

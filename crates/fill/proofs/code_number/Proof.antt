@@ -6,27 +6,21 @@ use Rattle.fill.proofs.code_number.Reads as reads
 use Rattle.fill.proofs.code_number.Lts as lts
 use Rattle.scalar.proofs.code_at.Reads as code-at-reads
 
--- src/lib.rt:136:11
 code-at-requires : tie.Need-code-at-requires
 code-at-requires c κs = search needs
 
--- src/lib.rt:137:21
 enum-known-next : tie.Need-enum-known-next
 enum-known-next c = search needs
 
--- src/lib.rt:137:56
 cast-t7 : tie.Need-cast-t7
 cast-t7 c = search needs
 
--- src/lib.rt:138:24
 enum-told : tie.Need-enum-told
 enum-told c = search needs
 
--- src/lib.rt:133:1
 returns : tie.Need-returns
 returns c = code-found (c .before .before .before .code-at .ensures) (c .before .next .given .1)
 
--- src/lib.rt:133:1
 returns-2 : tie.Need-returns-2
 returns-2 c = code-missing (c .before .before .code-at .ensures) (c .enum-told .given .1)
 

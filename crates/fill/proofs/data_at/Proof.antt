@@ -17,143 +17,108 @@ use Rattle.fill.proofs.number_data.Reads as number-data-reads
 use Rattle.fill.proofs.plain.Reads as plain-reads
 use Rattle.fill.proofs.text_data.Reads as text-data-reads
 
--- src/lib.rt:350:11
 class-of-requires : tie.Need-class-of-requires
 class-of-requires c κs = search needs
 
--- src/lib.rt:351:27
 enum-told : tie.Need-enum-told
 enum-told c = search needs
 
--- src/lib.rt:352:42
 enum-told-2 : tie.Need-enum-told-2
 enum-told-2 c = search needs
 
--- src/lib.rt:352:42
 implied-number-requires : tie.Need-implied-number-requires
 implied-number-requires c κs = search needs
 
--- src/lib.rt:352:36
 plain-requires : tie.Need-plain-requires
 plain-requires c κs = search needs
 
--- src/lib.rt:353:38
 enum-told-3 : tie.Need-enum-told-3
 enum-told-3 c = search needs
 
--- src/lib.rt:353:38
 int-number-requires : tie.Need-int-number-requires
 int-number-requires c κs = search needs
 
--- src/lib.rt:353:26
 number-data-requires : tie.Need-number-data-requires
 number-data-requires c κs = search needs
 
--- src/lib.rt:354:22
 enum-known-n : tie.Need-enum-known-n
 enum-known-n c = search needs
 
--- src/lib.rt:354:40
 fixed-number-requires : tie.Need-fixed-number-requires
 fixed-number-requires c κs = (size-of (c .before .before .before .before .before .fits .ty) (c .before .before .before .class-of .ensures) (c .before .n .given .1), (c .before .before .before .before .before .pre))
 
--- src/lib.rt:354:28
 number-data-requires-2 : tie.Need-number-data-requires-2
 number-data-requires-2 c κs = search needs
 
--- src/lib.rt:355:36
 enum-told-4 : tie.Need-enum-told-4
 enum-told-4 c = search needs
 
--- src/lib.rt:355:36
 code-number-requires : tie.Need-code-number-requires
 code-number-requires c κs = search needs
 
--- src/lib.rt:355:24
 number-data-requires-3 : tie.Need-number-data-requires-3
 number-data-requires-3 c κs = search needs
 
--- src/lib.rt:356:22
 enum-known-which : tie.Need-enum-known-which
 enum-known-which c = search needs
 
--- src/lib.rt:356:32
 moment-data-requires : tie.Need-moment-data-requires
 moment-data-requires c κs = search needs
 
--- src/lib.rt:357:27
 enum-told-5 : tie.Need-enum-told-5
 enum-told-5 c = search needs
 
--- src/lib.rt:357:27
 text-data-requires : tie.Need-text-data-requires
 text-data-requires c κs = search needs
 
--- src/lib.rt:358:23
 enum-known-shape : tie.Need-enum-known-shape
 enum-known-shape c = search needs
 
--- src/lib.rt:358:33
 holder-data-requires : tie.Need-holder-data-requires
 holder-data-requires c κs = search needs
 
--- src/lib.rt:359:28
 enum-told-6 : tie.Need-enum-told-6
 enum-told-6 c = search needs
 
--- src/lib.rt:359:28
 identity-data-requires : tie.Need-identity-data-requires
 identity-data-requires c κs = search needs
 
--- src/lib.rt:360:41
 enum-told-7 : tie.Need-enum-told-7
 enum-told-7 c = search needs
 
--- src/lib.rt:360:41
 amount-number-requires : tie.Need-amount-number-requires
 amount-number-requires c κs = search needs
 
--- src/lib.rt:360:29
 number-data-requires-4 : tie.Need-number-data-requires-4
 number-data-requires-4 c κs = search needs
 
--- src/lib.rt:346:1
 returns : tie.Need-returns
 returns c = refused-data (c .before .before .before .before .pre) (c .before .before .before .before .fits .ty) (c .before .before .class-of .ensures) (c .enum-told .given .1)
 
--- src/lib.rt:346:1
 returns-2 : tie.Need-returns-2
 returns-2 c = small-data (c .before .before .before .before .before .before .pre) (c .before .before .before .before .before .before .fits .ty) (c .before .before .before .before .class-of .ensures) (c .before .before .enum-told2 .given .1) (c .before .implied-number .ensures) (c .before .implied-number .ok) (c .plain .ensures)
 
--- src/lib.rt:346:1
 returns-3 : tie.Need-returns-3
 returns-3 c = int-data (c .before .before .before .before .before .before .pre) (c .before .before .before .before .before .before .fits .ty) (c .before .before .before .before .class-of .ensures) (c .before .before .enum-told3 .given .1) (c .before .int-number .ensures) (c .number-data .ensures)
 
--- src/lib.rt:346:1
 returns-4 : tie.Need-returns-4
 returns-4 c = fixed-data (c .before .before .before .before .before .before .before .pre) (c .before .before .before .before .before .before .before .fits .ty) (c .before .before .before .before .before .class-of .ensures) (c .before .before .before .n .given .1) (c .before .fixed-number .ensures) (c .number-data2 .ensures)
 
--- src/lib.rt:346:1
 returns-5 : tie.Need-returns-5
 returns-5 c = char-data (c .before .before .before .before .before .before .pre) (c .before .before .before .before .before .before .fits .ty) (c .before .before .before .before .class-of .ensures) (c .before .before .enum-told4 .given .1) (c .before .code-number .ensures) (c .number-data3 .ensures)
 
--- src/lib.rt:346:1
 returns-6 : tie.Need-returns-6
 returns-6 c = moment-data (c .before .before .before .before .before .before .pre) (c .before .before .before .before .before .before .fits .ty) (c .before .before .before .before .class-of .ensures) (c .before .before .which .given .1) (c .moment-data .ensures)
 
--- src/lib.rt:346:1
 returns-7 : tie.Need-returns-7
 returns-7 c = text-data (c .before .before .before .before .before .pre) (c .before .before .before .before .before .fits .ty) (c .before .before .before .class-of .ensures) (c .before .enum-told5 .given .1) (c .text-data .ensures)
 
--- src/lib.rt:346:1
 returns-8 : tie.Need-returns-8
 returns-8 c = holder-data (c .before .before .before .before .before .before .pre) (c .before .before .before .before .before .before .fits .ty) (c .before .before .before .before .class-of .ensures) (c .before .before .shape .given .1) (c .holder-data .ensures)
 
--- src/lib.rt:346:1
 returns-9 : tie.Need-returns-9
 returns-9 c = identity-data (c .before .before .before .before .before .pre) (c .before .before .before .before .before .fits .ty) (c .before .before .before .class-of .ensures) (c .before .enum-told6 .given .1) (c .identity-data .ensures)
 
--- src/lib.rt:346:1
 returns-10 : tie.Need-returns-10
 returns-10 c = reference-data (c .before .before .before .before .before .before .pre) (c .before .before .before .before .before .before .fits .ty) (c .before .before .before .before .class-of .ensures) (c .before .before .enum-told7 .given .1) (c .before .amount-number .ensures) (c .number-data4 .ensures)
 

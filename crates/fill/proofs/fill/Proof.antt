@@ -8,55 +8,42 @@ use Rattle.fill.proofs.fill.Lts as lts
 use Rattle.decide.proofs.alike.Reads as alike-reads
 use Rattle.fill.proofs.fill_elements.Reads as fill-elements-reads
 
--- src/lib.rt:537:9
 alike-requires : tie.Need-alike-requires
 alike-requires c κs = search needs
 
--- src/lib.rt:523:5
 fill-elements-requires : tie.Need-fill-elements-requires
 fill-elements-requires c κs = (c .before .before .before .before .before .before .before .before .before .before .before .before .before .before .before .before .before .before .pre, one-count (c .alike .ensures))
 
--- src/lib.rt:494:1
 same-length : tie.Need-same-length
 same-length c = search needs
 
--- src/lib.rt:494:1
 same-length-2 : tie.Need-same-length-2
 same-length-2 c = search needs
 
--- src/lib.rt:494:1
 same-length-3 : tie.Need-same-length-3
 same-length-3 c = search needs
 
--- src/lib.rt:494:1
 same-length-4 : tie.Need-same-length-4
 same-length-4 c = search needs
 
--- src/lib.rt:494:1
 same-length-5 : tie.Need-same-length-5
 same-length-5 c = search needs
 
--- src/lib.rt:494:1
 same-length-6 : tie.Need-same-length-6
 same-length-6 c = search needs
 
--- src/lib.rt:494:1
 same-length-7 : tie.Need-same-length-7
 same-length-7 c = search needs
 
--- src/lib.rt:494:1
 same-length-8 : tie.Need-same-length-8
 same-length-8 c = search needs
 
--- src/lib.rt:494:1
 same-length-9 : tie.Need-same-length-9
 same-length-9 c = search needs
 
--- src/lib.rt:494:1
 same-length-10 : tie.Need-same-length-10
 same-length-10 c = search needs
 
--- src/lib.rt:494:1
 returns : tie.Need-returns
 returns c = filled-whole (c .before .before .before .before .before .before .before .before .before .before .before .before .before .before .before .before .before .alike .ensures) (c .before .before .before .before .before .before .before .before .before .before .before .before .before .before .before .before .fill-elements .ensures) refl refl (c .before .before .before .before .before .before .before .before .before .before .before .before .before .before .before .before .before .before .before .before .before .before .before .before .before .before .before .before .before .before .before .before .before .before .before .pre .room)
 

@@ -6,23 +6,18 @@ use Rattle.fill.proofs.fixed_number.Reads as reads
 use Rattle.fill.proofs.fixed_number.Lts as lts
 use Rattle.scalar.proofs.bits_at.Reads as bits-at-reads
 
--- src/lib.rt:126:8
 sub-if1 : tie.Need-sub-if1
 sub-if1 c = search needs
 
--- src/lib.rt:127:9
 returns : tie.Need-returns
 returns c = fixed-missing (c .before .before .pre .0) (c .before .before .pre .1) (c .if1 .taken)
 
--- src/lib.rt:129:22
 add-t4 : tie.Need-add-t4
 add-t4 c = search needs
 
--- src/lib.rt:129:30
 bits-at-requires : tie.Need-bits-at-requires
 bits-at-requires c κs = search needs
 
--- src/lib.rt:122:1
 returns-2 : tie.Need-returns-2
 returns-2 c = fixed-found (c .before .before .before .pre .0) (c .before .before .before .pre .1) (c .before .if1 .left) (c .bits-at .ensures) (c .bits-at .ok)
 

@@ -12,63 +12,48 @@ use Rattle.decide.proofs.amount_at.Reads as amount-at-reads
 use Rattle.decide.proofs.nest_of.Reads as nest-of-reads
 use Rattle.decide.proofs.type_at.Reads as type-at-reads
 
--- src/lib.rt:224:11
 type-at-requires : tie.Need-type-at-requires
 type-at-requires c κs = search needs
 
--- src/lib.rt:225:31
 enum-told : tie.Need-enum-told
 enum-told c = search needs
 
--- src/lib.rt:226:21
 enum-known-at2 : tie.Need-enum-known-at2
 enum-known-at2 c = search needs
 
--- src/lib.rt:226:42
 type-at-requires-2 : tie.Need-type-at-requires-2
 type-at-requires-2 c κs = element-past (elementary-at (c .before .before .before .type-at .ensures)) (c .before .at2 .given .1) .1
 
--- src/lib.rt:227:35
 enum-told-2 : tie.Need-enum-told-2
 enum-told-2 c = search needs
 
--- src/lib.rt:228:25
 enum-known-at3 : tie.Need-enum-known-at3
 enum-known-at3 c = search needs
 
--- src/lib.rt:228:47
 amount-at-requires : tie.Need-amount-at-requires
 amount-at-requires c κs = search needs
 
--- src/lib.rt:229:40
 enum-told-3 : tie.Need-enum-told-3
 enum-told-3 c = search needs
 
--- src/lib.rt:230:32
 enum-known-next : tie.Need-enum-known-next
 enum-known-next c = search needs
 
--- src/lib.rt:234:33
 cast-t16 : tie.Need-cast-t16
 cast-t16 c = search needs
 
--- src/lib.rt:238:21
 nest-of-requires : tie.Need-nest-of-requires
 nest-of-requires c κs = search needs
 
--- src/lib.rt:220:1
 returns : tie.Need-returns
 returns c = holder-untyped (c .before .before .before .before .args .shape) (elementary-at (c .before .before .type-at .ensures)) (c .enum-told .given .1)
 
--- src/lib.rt:220:1
 returns-2 : tie.Need-returns-2
 returns-2 c = holder-untyped-2 (c .before .before .before .before .before .before .before .before .args .shape) (elementary-at (c .before .before .before .before .before .before .type-at .ensures)) (c .before .before .before .before .at2 .given .1) (elementary-at (c .before .before .type-at2 .ensures)) (c .enum-told2 .given .1)
 
--- src/lib.rt:220:1
 returns-3 : tie.Need-returns-3
 returns-3 c = holder-unnumbered (c .before .before .before .before .before .before .before .before .before .before .before .before .args .shape) (elementary-at (c .before .before .before .before .before .before .before .before .before .before .type-at .ensures)) (c .before .before .before .before .before .before .before .before .at2 .given .1) (elementary-at (c .before .before .before .before .before .before .type-at2 .ensures)) (c .before .before .before .before .at3 .given .1) (c .before .before .amount-at .ensures) (c .enum-told3 .given .1)
 
--- src/lib.rt:220:1
 returns-4 : tie.Need-returns-4
 returns-4 c = holder-read (c .before .before .before .before .before .before .before .before .before .before .before .before .before .before .args .shape) (elementary-at (c .before .before .before .before .before .before .before .before .before .before .before .before .type-at .ensures)) (c .before .before .before .before .before .before .before .before .before .before .at2 .given .1) (elementary-at (c .before .before .before .before .before .before .before .before .type-at2 .ensures)) (c .before .before .before .before .before .before .at3 .given .1) (c .before .before .before .before .amount-at .ensures) (c .before .before .next .given .1) (held {w = w32} (record { sfits = c .before .before .before .before .before .before .before .before .before .known-told .given .1 .0 .1 })) (held {w = w32} (record { sfits = c .before .before .before .before .before .known-told2 .given .1 .0 .1 })) (c .nest-of .ensures)
 

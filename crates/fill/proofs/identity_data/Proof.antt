@@ -8,35 +8,27 @@ use Rattle.decide.proofs.alike.Reads as alike-reads
 use Rattle.decide.proofs.amount_at.Reads as amount-at-reads
 use Rattle.fill.proofs.plain.Reads as plain-reads
 
--- src/lib.rt:210:11
 amount-at-requires : tie.Need-amount-at-requires
 amount-at-requires c κs = search needs
 
--- src/lib.rt:211:32
 enum-told : tie.Need-enum-told
 enum-told c = search needs
 
--- src/lib.rt:212:24
 enum-known-next : tie.Need-enum-known-next
 enum-known-next c = search needs
 
--- src/lib.rt:213:19
 cast-plain : tie.Need-cast-plain
 cast-plain c = search needs
 
--- src/lib.rt:213:13
 plain-requires : tie.Need-plain-requires
 plain-requires c κs = search needs
 
--- src/lib.rt:214:13
 alike-requires : tie.Need-alike-requires
 alike-requires c κs = search needs
 
--- src/lib.rt:206:1
 returns : tie.Need-returns
 returns c = identity-unnumbered (c .before .before .before .before .pre) (c .before .before .amount-at .ensures) (c .enum-told .given .1)
 
--- src/lib.rt:206:1
 returns-2 : tie.Need-returns-2
 returns-2 c = identity-holder (c .before .before .before .before .before .before .before .pre) (c .before .before .before .before .before .amount-at .ensures) (c .before .before .before .next .given .1) (c .before .plain .ensures) (c .alike .ensures)
 

@@ -14,23 +14,18 @@ use Rattle.fill.proofs.implied_number.Lts as lts
 wide : {v : ℤ} → SFits w32 v → SFits w64 v
 wide = widened (omega arith)
 
--- src/lib.rt:157:23
 cast-result : tie.Need-cast-result
 cast-result c = rw (held (c .before .fits .ty)) (wide (c .before .fits .ty))
 
--- src/lib.rt:157:16
 sub-result : tie.Need-sub-result
 sub-result c = simp (held (c .before .fits .ty), held (wide (c .before .fits .ty))) (implied-fits (c .before .args .ty) (c .before .fits .ty))
 
--- src/lib.rt:157:9
 returns : tie.Need-returns
 returns c = simp (held (c .before .fits .ty), held (wide (c .before .fits .ty)), held (implied-fits (c .before .args .ty) (c .before .fits .ty))) (implied-high (c .before .args .ty) (seen (c .before .fits .ty) (negsuc 39) true (c .if1 .taken)))
 
--- src/lib.rt:160:9
 returns-2 : tie.Need-returns-2
 returns-2 c = implied-true (sym (held (c .before .before .fits .ty)) ∙ ap (toZ w32) (c .if2 .taken))
 
--- src/lib.rt:153:1
 returns-3 : tie.Need-returns-3
 returns-3 c = implied-low (c .before .before .args .ty) (seen (c .before .before .fits .ty) (negsuc 39) false (c .before .if1 .left)) (λ q. c .if2 .left (ap (ofZ w32) q))
 

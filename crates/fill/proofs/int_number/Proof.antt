@@ -6,23 +6,18 @@ use Rattle.fill.proofs.int_number.Reads as reads
 use Rattle.fill.proofs.int_number.Lts as lts
 use Rattle.integer.proofs.known64_at.Reads as known64-at-reads
 
--- src/lib.rt:115:11
 known64-at-requires : tie.Need-known64-at-requires
 known64-at-requires c κs = search needs
 
--- src/lib.rt:116:23
 enum-known-next : tie.Need-enum-known-next
 enum-known-next c = search needs
 
--- src/lib.rt:117:33
 enum-told : tie.Need-enum-told
 enum-told c = search needs
 
--- src/lib.rt:112:1
 returns : tie.Need-returns
 returns c = int-found (c .before .before .before .known64-at .ensures) (c .before .next .given .1) (c .known-told .given .1 .0 .1)
 
--- src/lib.rt:112:1
 returns-2 : tie.Need-returns-2
 returns-2 c = int-missing (c .before .before .known64-at .ensures) (c .enum-told .given .1)
 

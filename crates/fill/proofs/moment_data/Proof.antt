@@ -8,47 +8,36 @@ use Rattle.decide.proofs.alike.Reads as alike-reads
 use Rattle.fill.proofs.plain.Reads as plain-reads
 use Rattle.scalar.proofs.moment_past.Reads as moment-past-reads
 
--- src/lib.rt:197:37
 enum-told : tie.Need-enum-told
 enum-told c = search needs
 
--- src/lib.rt:197:37
 plain-requires : tie.Need-plain-requires
 plain-requires c κs = search needs
 
--- src/lib.rt:197:51
 alike-requires : tie.Need-alike-requires
 alike-requires c κs = search needs
 
--- src/lib.rt:198:20
 moment-past-requires : tie.Need-moment-past-requires
 moment-past-requires c κs = search needs
 
--- src/lib.rt:199:33
 enum-told-2 : tie.Need-enum-told-2
 enum-told-2 c = search needs
 
--- src/lib.rt:200:30
 enum-known-n : tie.Need-enum-known-n
 enum-known-n c = search needs
 
--- src/lib.rt:200:49
 plain-requires-2 : tie.Need-plain-requires-2
 plain-requires-2 c κs = search needs
 
--- src/lib.rt:200:63
 alike-requires-2 : tie.Need-alike-requires-2
 alike-requires-2 c κs = search needs
 
--- src/lib.rt:192:1
 returns : tie.Need-returns
 returns c = date-holder (c .before .before .before .before .before .pre) (c .before .plain .ensures) (c .before .before .enum-told .given .1) (c .alike .ensures)
 
--- src/lib.rt:192:1
 returns-2 : tie.Need-returns-2
 returns-2 c = moment-unread (c .before .before .before .before .before .pre) (c .before .before .before .before .before .args .which) (c .before .before .moment-past .ensures) (c .enum-told2 .given .1)
 
--- src/lib.rt:192:1
 returns-3 : tie.Need-returns-3
 returns-3 c = moment-holder (c .before .before .before .before .before .before .before .before .pre) (c .before .plain2 .ensures) (c .before .before .before .before .before .before .before .before .args .which) (c .before .before .before .before .before .moment-past .ensures) (c .before .before .before .n .given .1) (c .alike2 .ensures)
 

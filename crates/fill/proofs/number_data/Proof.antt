@@ -7,23 +7,18 @@ use Rattle.fill.proofs.number_data.Reads as reads
 use Rattle.fill.proofs.number_data.Lts as lts
 use Rattle.fill.proofs.plain.Reads as plain-reads
 
--- src/lib.rt:267:30
 enum-told : tie.Need-enum-told
 enum-told c = search needs
 
--- src/lib.rt:268:26
 enum-known-n : tie.Need-enum-known-n
 enum-known-n c = search needs
 
--- src/lib.rt:268:54
 plain-requires : tie.Need-plain-requires
 plain-requires c κs = search needs
 
--- src/lib.rt:263:1
 returns : tie.Need-returns
 returns c = search needs
 
--- src/lib.rt:263:1
 returns-2 : tie.Need-returns-2
 returns-2 c = rw (c .before .before .n .given .1, c .plain .ensures, held {w = w64} (record { sfits = c .before .known-told .given .1 .0 .1 }))
 

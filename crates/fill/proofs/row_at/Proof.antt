@@ -12,63 +12,48 @@ use Rattle.decide.proofs.typed_at.Reads as typed-at-reads
 use Rattle.fill.proofs.data_at.Reads as data-at-reads
 use Rattle.fill.proofs.front_row.Reads as front-row-reads
 
--- src/lib.rt:301:11
 typed-at-requires : tie.Need-typed-at-requires
 typed-at-requires c κs = search needs
 
--- src/lib.rt:302:30
 enum-told : tie.Need-enum-told
 enum-told c = search needs
 
--- src/lib.rt:303:25
 enum-known-from : tie.Need-enum-known-from
 enum-known-from c = search needs
 
--- src/lib.rt:303:44
 data-at-requires : tie.Need-data-at-requires
 data-at-requires c κs = typed-past (c .before .before .before .typed-at .ensures) (c .before .from .given .1) .1
 
--- src/lib.rt:304:29
 enum-told-2 : tie.Need-enum-told-2
 enum-told-2 c = search needs
 
--- src/lib.rt:305:24
 enum-known-f : tie.Need-enum-known-f
 enum-known-f c = search needs
 
--- src/lib.rt:305:56
 own-of-requires : tie.Need-own-of-requires
 own-of-requires c κs = search needs
 
--- src/lib.rt:305:42
 front-row-requires : tie.Need-front-row-requires
 front-row-requires c κs = let p = leaf-past (c .before .before .before .before .data-at .ensures) (c .before .before .f .given .1) in let q = (c .before .before .before .before .before .before .before .before .before .before .pre) in (omega (arith, q .0, q .1), omega (arith, p .2, q .1), omega (arith, p .1, q .1))
 
--- src/lib.rt:306:26
 enum-known-f-2 : tie.Need-enum-known-f-2
 enum-known-f-2 c = search needs
 
--- src/lib.rt:306:66
 own-of-requires-2 : tie.Need-own-of-requires-2
 own-of-requires-2 c κs = search needs
 
--- src/lib.rt:306:52
 front-row-requires-2 : tie.Need-front-row-requires-2
 front-row-requires-2 c κs = let p = holder-past (c .before .before .before .before .data-at .ensures) (c .before .before .f2 .given .1) in let q = (c .before .before .before .before .before .before .before .before .before .before .pre) in (omega (arith, q .0, q .1), omega (arith, p .2, q .1), omega (arith, p .1, q .1))
 
--- src/lib.rt:297:1
 returns : tie.Need-returns
 returns c = row-untyped (c .before .before .typed-at .ensures) (c .enum-told .given .1)
 
--- src/lib.rt:297:1
 returns-2 : tie.Need-returns-2
 returns-2 c = row-unread (c .before .before .before .before .before .before .typed-at .ensures) (c .before .before .before .before .from .given .1) (held {w = w32} (record { sfits = c .before .before .before .known-told .given .1 .0 .1 })) (c .before .before .data-at .ensures) (c .enum-told2 .given .1)
 
--- src/lib.rt:297:1
 returns-3 : tie.Need-returns-3
 returns-3 c = row-leaf (c .before .before .before .before .before .before .before .before .before .typed-at .ensures) (c .before .before .before .before .before .before .before .from .given .1) (held {w = w32} (record { sfits = c .before .before .before .before .before .before .known-told .given .1 .0 .1 })) (c .before .before .before .before .before .data-at .ensures) (c .before .before .before .f .given .1) (c .before .own-of .ensures) (c .front-row .ensures)
 
--- src/lib.rt:297:1
 returns-4 : tie.Need-returns-4
 returns-4 c = row-holder (c .before .before .before .before .before .before .before .before .before .typed-at .ensures) (c .before .before .before .before .before .before .before .from .given .1) (held {w = w32} (record { sfits = c .before .before .before .before .before .before .known-told .given .1 .0 .1 })) (c .before .before .before .before .before .data-at .ensures) (c .before .before .before .f2 .given .1) (c .before .own-of2 .ensures) (c .front-row2 .ensures)
 

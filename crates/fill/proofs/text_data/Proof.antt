@@ -7,47 +7,36 @@ use Rattle.fill.proofs.text_data.Reads as reads
 use Rattle.fill.proofs.text_data.Lts as lts
 use Rattle.decide.proofs.amount_at.Reads as amount-at-reads
 
--- src/lib.rt:277:11
 amount-at-requires : tie.Need-amount-at-requires
 amount-at-requires c κs = search needs
 
--- src/lib.rt:278:32
 enum-told : tie.Need-enum-told
 enum-told c = search needs
 
--- src/lib.rt:279:24
 enum-known-next : tie.Need-enum-known-next
 enum-known-next c = search needs
 
--- src/lib.rt:280:16
 sub-if1 : tie.Need-sub-if1
 sub-if1 c = amount-past (c .before .before .before .amount-at .ensures) (c .before .next .given .1) .1
 
--- src/lib.rt:280:35
 cast-if1 : tie.Need-cast-if1
 cast-if1 c = search needs
 
--- src/lib.rt:281:17
 returns : tie.Need-returns
 returns c = text-cut (c .before .before .before .before .before .before .pre) (c .before .before .before .before .amount-at .ensures) (c .before .before .next .given .1) (c .if1 .taken)
 
--- src/lib.rt:286:25
 cast-t11 : tie.Need-cast-t11
 cast-t11 c = search needs
 
--- src/lib.rt:288:29
 cast-t7 : tie.Need-cast-t7
 cast-t7 c = search needs
 
--- src/lib.rt:288:22
 add-t8 : tie.Need-add-t8
 add-t8 c = search needs
 
--- src/lib.rt:273:1
 returns-2 : tie.Need-returns-2
 returns-2 c = text-unnumbered (c .before .before .before .before .pre) (c .before .before .amount-at .ensures) (c .enum-told .given .1)
 
--- src/lib.rt:273:1
 returns-3 : tie.Need-returns-3
 returns-3 c = text-leaf (c .before .before .before .before .before .before .pre) (c .before .before .before .before .amount-at .ensures) (c .before .before .next .given .1) (c .if1 .left)
 

@@ -4,31 +4,24 @@ use borrow.Author.Needs.{needs}
 use Rattle.frame.proofs.check_frame.Statement.{statement}
 use Rattle.frame.proofs.check_frame.Tie as tie
 
--- src/lib.rt:116:9
 returns : tie.Need-returns
 returns c = frame-long _ (c .if1 .taken)
 
--- src/lib.rt:121:11
 open-frame-requires : tie.Need-open-frame-requires
 open-frame-requires c κs = search needs
 
--- src/lib.rt:122:26
 enum-known-r : tie.Need-enum-known-r
 enum-known-r c = search needs
 
--- src/lib.rt:123:25
 enum-known-from : tie.Need-enum-known-from
 enum-known-from c = search needs
 
--- src/lib.rt:123:37
 message-in-requires : tie.Need-message-in-requires
 message-in-requires c κs = (message-starts _ (c .before .before .before .open-frame .ensures) (c .before .before .before .before .if1 .left) (c .before .from .given .1), c .before .before .before .before .if1 .left)
 
--- src/lib.rt:112:1
 returns-2 : tie.Need-returns-2
 returns-2 c = frame-refused _ (c .before .before .before .open-frame .ensures) (c .before .before .before .before .if1 .left) (c .before .r .given .1)
 
--- src/lib.rt:112:1
 returns-3 : tie.Need-returns-3
 returns-3 c = frame-read _ (c .before .before .before .before .open-frame .ensures) (c .before .before .before .before .before .if1 .left) (c .before .before .from .given .1) (held (record { sfits = c .before .known-told2 .given .1 .0 .1 })) (c .message-in .ensures)
 

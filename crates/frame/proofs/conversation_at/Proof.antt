@@ -4,23 +4,18 @@ use borrow.Author.Needs.{needs}
 use Rattle.frame.proofs.conversation_at.Statement.{statement}
 use Rattle.frame.proofs.conversation_at.Tie as tie
 
--- src/lib.rt:39:11
 int32-at-requires : tie.Need-int32-at-requires
 int32-at-requires c κs = search needs
 
--- src/lib.rt:40:27
 enum-known-r : tie.Need-enum-known-r
 enum-known-r c = search needs
 
--- src/lib.rt:41:23
 enum-known-next : tie.Need-enum-known-next
 enum-known-next c = search needs
 
--- src/lib.rt:36:1
 returns : tie.Need-returns
 returns c = conversation-refused _ (c .before .before .before .int32-at .ensures) (c .before .r .given .1)
 
--- src/lib.rt:36:1
 returns-2 : tie.Need-returns-2
 returns-2 c = conversation-read _ (c .before .before .before .int32-at .ensures) (c .before .next .given .1) (held (record { sfits = c .known-told2 .given .1 .0 .1 }))
 

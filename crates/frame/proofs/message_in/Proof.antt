@@ -4,35 +4,27 @@ use borrow.Author.Needs.{needs}
 use Rattle.frame.proofs.message_in.Statement.{statement}
 use Rattle.frame.proofs.message_in.Tie as tie
 
--- src/lib.rt:91:11
 first-value-requires : tie.Need-first-value-requires
 first-value-requires c κs = search needs
 
--- src/lib.rt:92:20
 enum-known-r : tie.Need-enum-known-r
 enum-known-r c = search needs
 
--- src/lib.rt:93:18
 enum-known-next : tie.Need-enum-known-next
 enum-known-next c = search needs
 
--- src/lib.rt:95:17
 returns : tie.Need-returns
 returns c = message-left _ _ _ (c .before .before .before .before .first-value .ensures) (c .before .before .next .given .1) (c .if1 .taken)
 
--- src/lib.rt:100:16
 user-at-requires : tie.Need-user-at-requires
 user-at-requires c κs = search needs
 
--- src/lib.rt:101:17
 returns-2 : tie.Need-returns-2
 returns-2 c = message-rows _ _ _ (c .before .before .before .before .before .before .first-value .ensures) (c .before .before .before .before .next .given .1) (c .before .user-at .ensures) (c .before .before .if1 .left) (held (c .before .before .before .before .before .before .before .before .fits .conversation)) (c .if2 .taken)
 
--- src/lib.rt:87:1
 returns-3 : tie.Need-returns-3
 returns-3 c = message-refused _ _ _ (c .before .before .before .first-value .ensures) (c .before .r .given .1)
 
--- src/lib.rt:87:1
 returns-4 : tie.Need-returns-4
 returns-4 c = message-alien _ _ _ (c .before .before .before .before .before .before .first-value .ensures) (c .before .before .before .before .next .given .1) (c .before .user-at .ensures) (c .before .before .if1 .left) (c .if2 .left)
 

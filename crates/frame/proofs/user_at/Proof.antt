@@ -3,31 +3,24 @@ use borrow.Author.Needs.{needs}
 use Rattle.frame.proofs.user_at.Statement.{statement}
 use Rattle.frame.proofs.user_at.Tie as tie
 
--- src/lib.rt:79:11
 signed-at-requires : tie.Need-signed-at-requires
 signed-at-requires c κs = search needs
 
--- src/lib.rt:80:30
 enum-told : tie.Need-enum-told
 enum-told c = search needs
 
--- src/lib.rt:81:35
 enum-told-2 : tie.Need-enum-told-2
 enum-told-2 c = search needs
 
--- src/lib.rt:82:35
 enum-told-3 : tie.Need-enum-told-3
 enum-told-3 c = search needs
 
--- src/lib.rt:76:1
 returns : tie.Need-returns
 returns c = user-faulty _ (c .before .before .signed-at .ensures) (c .enum-told .given .1)
 
--- src/lib.rt:76:1
 returns-2 : tie.Need-returns-2
 returns-2 c = user-negative _ (c .before .before .signed-at .ensures) (c .enum-told2 .given .1)
 
--- src/lib.rt:76:1
 returns-3 : tie.Need-returns-3
 returns-3 c = user-positive _ (c .before .before .signed-at .ensures) (c .enum-told3 .given .1)
 

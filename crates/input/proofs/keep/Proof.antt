@@ -13,43 +13,33 @@ Inv-loop src₀ from end n i₀ src i = (i ≤ n) × Moving src₀ from i src
 abbrev μ-loop : tie.MeasureT-loop
 μ-loop src₀ from end n i₀ src i = n - i
 
--- src/lib.rt:21:13
 sub-n : tie.Need-sub-n Inv-loop μ-loop
 sub-n c = search needs
 
--- src/lib.rt:23:5
 loop-holds : tie.Need-loop-holds Inv-loop μ-loop
 loop-holds c = (omega arith, moving-none)
 
--- src/lib.rt:24:22
 add-src : tie.Need-add-src Inv-loop μ-loop
 add-src c = search needs
 
--- src/lib.rt:24:18
 slice-read-src : tie.Need-slice-read-src Inv-loop μ-loop
 slice-read-src c = omega (arith, c .before .before .loop .inv .1 .kept, c .before .before .before .pre, c .before .loop-test .taken)
 
--- src/lib.rt:24:9
 slice-write-src : tie.Need-slice-write-src Inv-loop μ-loop
 slice-write-src c = omega (arith, c .before .before .loop .inv .1 .kept, c .before .before .before .pre, c .before .loop-test .taken)
 
--- src/lib.rt:25:9
 add-i : tie.Need-add-i Inv-loop μ-loop
 add-i c = search needs
 
--- src/lib.rt:23:5
 loop-less : tie.Need-loop-less Inv-loop μ-loop
 loop-less c = search needs
 
--- src/lib.rt:23:5
 loop-again : tie.Need-loop-again Inv-loop μ-loop
 loop-again c = (omega arith, moving-again (c .before .before .loop .inv .1) (omega (arith, c .before .before .before .pre, c .before .loop-test .taken)))
 
--- src/lib.rt:17:1
 same-length : tie.Need-same-length Inv-loop μ-loop
 same-length c = c .before .loop .inv .1 .kept
 
--- src/lib.rt:17:1
 returns : tie.Need-returns Inv-loop μ-loop
 returns c = moved (omega (arith, c .before .before .pre)) (c .loop-test .left) (c .before .loop .inv)
 

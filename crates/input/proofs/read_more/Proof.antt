@@ -9,31 +9,24 @@ use Rattle.input.proofs.read_more.Lts as lts
 use Rattle.io.proofs.count.Reads as count-reads
 use Rattle.libc.proofs.read.Reads as read-reads
 
--- src/lib.rt:10:16
 sub-part : tie.Need-sub-part
 sub-part c = search needs
 
--- src/lib.rt:10:16
 part-part-start : tie.Need-part-part-start
 part-part-start c = search needs
 
--- src/lib.rt:10:16
 part-part-end : tie.Need-part-part-end
 part-part-end c = search needs
 
--- src/lib.rt:11:9
 read-requires : tie.Need-read-requires
 read-requires c κs = search needs
 
--- src/lib.rt:12:5
 count-requires : tie.Need-count-requires
 count-requires c κs = search needs
 
--- src/lib.rt:6:1
 same-length : tie.Need-same-length
 same-length c = search needs
 
--- src/lib.rt:6:1
 returns : tie.Need-returns
 returns c = record { room = search needs; kept = take-put (c .before .before .before .before .before .before .before .before .before .before .args .held) (length (c .before .before .before .before .before .before .before .before .before .before .args .src .now) - c .before .before .before .before .before .before .before .before .before .before .args .held) (c .before .before .before .before .before .before .before .before .before .before .args .src .now) (c .before .before .before .before .before .before .read .last .1 .0) (c .before .before .before .before .before .before .before .before .before .before .pre) }
 

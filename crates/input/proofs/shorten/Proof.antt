@@ -5,19 +5,15 @@ use Rattle.input.proofs.shorten.Tie as tie
 use Rattle.input.proofs.shorten.Reads as reads
 use Rattle.input.proofs.shorten.Lts as lts
 
--- src/lib.rt:36:9
 returns : tie.Need-returns
 returns c = held-all (c .if1 .taken)
 
--- src/lib.rt:38:5
 slice-write-src : tie.Need-slice-write-src
 slice-write-src c = search needs
 
--- src/lib.rt:31:1
 same-length : tie.Need-same-length
 same-length c = search needs
 
--- src/lib.rt:31:1
 returns-2 : tie.Need-returns-2
 returns-2 c = held-one (c .if1 .left) (c .before .pre .1)
 

@@ -22,77 +22,65 @@ abbrev put-rest-below : ℕ → In 1 put-rest-kinds.ps
 put-rest-below t =
     and 1 put-rest-kinds.ps (falls 1 put-rest-kinds.ps _<_ μ-put-rest t) put-rest.Pre
 
--- src/lib.rt:248:19
 put-rest-cast-out :
     (t : ℕ) →
     put-rest-lts.Need-cast-out (put-rest-below t, put-rest.Post) (put-rest-at t) put-rest.Post
 put-rest-cast-out t c = omega arith
 
--- src/lib.rt:248:9
 put-rest-slice-write-out : (t : ℕ) → put-rest-lts.Need-slice-write-out (
   put-rest-below t,
   put-rest.Post,
 ) (put-rest-at t) put-rest.Post
 put-rest-slice-write-out t c = room-one (groups-last _ (c .if1 .taken)) (c .before .before .pre .1)
 
--- src/lib.rt:249:16
 put-rest-add-result :
     (t : ℕ) →
     put-rest-lts.Need-add-result (put-rest-below t, put-rest.Post) (put-rest-at t) put-rest.Post
 put-rest-add-result t c = omega (arith, room-one (groups-last _ (c .if1 .taken)) (c .before .before .pre .1))
 
--- src/lib.rt:249:9
 put-rest-same-length :
     (t : ℕ) →
     put-rest-lts.Need-same-length (put-rest-below t, put-rest.Post) (put-rest-at t) put-rest.Post
 put-rest-same-length t c = simp length-set
 
--- src/lib.rt:249:9
 put-rest-returns :
     (t : ℕ) →
     put-rest-lts.Need-returns (put-rest-below t, put-rest.Post) (put-rest-at t) put-rest.Post
 put-rest-returns t c = wrote-last _ _ (groups-last _ (c .if1 .taken))
 
--- src/lib.rt:251:16
 put-rest-add-out :
     (t : ℕ) →
     put-rest-lts.Need-add-out (put-rest-below t, put-rest.Post) (put-rest-at t) put-rest.Post
 put-rest-add-out t c = omega arith
 
--- src/lib.rt:251:15
 put-rest-cast-out-2 :
     (t : ℕ) →
     put-rest-lts.Need-cast-out-2 (put-rest-below t, put-rest.Post) (put-rest-at t) put-rest.Post
 put-rest-cast-out-2 t c = omega arith
 
--- src/lib.rt:251:5
 put-rest-slice-write-out-2 : (t : ℕ) → put-rest-lts.Need-slice-write-out-2 (
   put-rest-below t,
   put-rest.Post,
 ) (put-rest-at t) put-rest.Post
 put-rest-slice-write-out-2 t c = room-one (groups-more _ (c .if1 .left)) (c .before .before .pre .1)
 
--- src/lib.rt:252:19
 put-rest-add-put-rest :
     (t : ℕ) →
     put-rest-lts.Need-add-put-rest (put-rest-below t, put-rest.Post) (put-rest-at t) put-rest.Post
 put-rest-add-put-rest t c = omega (arith, room-one (groups-more _ (c .before .if1 .left)) (c .before .before .before .pre .1))
 
--- src/lib.rt:252:5
 put-rest-put-rest-requires : (t : ℕ) → put-rest-lts.Need-put-rest-requires (
   put-rest-below t,
   put-rest.Post,
 ) (put-rest-at t) put-rest.Post
 put-rest-put-rest-requires t c κs = (omega arith, room-more (groups-more _ (c .before .if1 .left)) (c .before .before .before .pre .1))
 
--- src/lib.rt:243:1
 put-rest-same-length-2 : (t : ℕ) → put-rest-lts.Need-same-length-2 (
   put-rest-below t,
   put-rest.Post,
 ) (put-rest-at t) put-rest.Post
 put-rest-same-length-2 t c = c .before .before .put-rest .kept .0 ∙ simp length-set
 
--- src/lib.rt:243:1
 put-rest-returns-2 :
     (t : ℕ) →
     put-rest-lts.Need-returns-2 (put-rest-below t, put-rest.Post) (put-rest-at t) put-rest.Post

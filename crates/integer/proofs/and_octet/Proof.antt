@@ -5,35 +5,27 @@ use borrow.Author.Needs.{needs}
 use Rattle.integer.proofs.and_octet.Statement.{statement}
 use Rattle.integer.proofs.and_octet.Tie as tie
 
--- src/lib.rt:52:27
 cast-gated : tie.Need-cast-gated
 cast-gated c = search needs
 
--- src/lib.rt:52:15
 gated-requires : tie.Need-gated-requires
 gated-requires c κs = search needs
 
--- src/lib.rt:53:16
 add-t9 : tie.Need-add-t9
 add-t9 c = search needs
 
--- src/lib.rt:54:44
 cast-gated-2 : tie.Need-cast-gated-2
 cast-gated-2 c = search needs
 
--- src/lib.rt:54:32
 gated-requires-2 : tie.Need-gated-requires-2
 gated-requires-2 c κs = search needs
 
--- src/lib.rt:54:24
 mul-t13 : tie.Need-mul-t13
 mul-t13 c = let s = c .before .before .before in omega (arith, mul-le-mul {n₁ = s .args .worth} {m₁ = c .gated2 .result} {n₂ = 4294967295} {m₂ = 127} (omega arith) (omega arith))
 
--- src/lib.rt:54:15
 add-t14 : tie.Need-add-t14
 add-t14 c = let s = c .before .before .before .before in omega (arith, mul-le-mul {n₁ = s .args .worth} {m₁ = c .before .gated2 .result} {n₂ = 4294967295} {m₂ = 127} (omega arith) (omega arith))
 
--- src/lib.rt:46:1
 returns : tie.Need-returns
 returns c = let s = c .before .before .before .before in also-is (s .args .f) (s .args .worth) (s .args .b) _ _ (s .pre .0) (omega arith) (c .before .before .before .gated .ensures .0) (c .before .gated2 .ensures .0)
 

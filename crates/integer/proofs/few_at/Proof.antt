@@ -4,55 +4,42 @@ use borrow.Author.Needs.{needs}
 use Rattle.integer.proofs.few_at.Statement.{statement}
 use Rattle.integer.proofs.few_at.Tie as tie
 
--- src/lib.rt:119:38
 add-and-octet : tie.Need-add-and-octet
 add-and-octet c = search needs
 
--- src/lib.rt:119:34
 shared-slice-read-and-octet : tie.Need-shared-slice-read-and-octet
 shared-slice-read-and-octet c = search needs
 
--- src/lib.rt:119:9
 and-octet-requires : tie.Need-and-octet-requires
 and-octet-requires c κs = search needs
 
--- src/lib.rt:120:39
 add-and-octet-2 : tie.Need-add-and-octet-2
 add-and-octet-2 c = search needs
 
--- src/lib.rt:120:35
 shared-slice-read-and-octet-2 : tie.Need-shared-slice-read-and-octet-2
 shared-slice-read-and-octet-2 c = search needs
 
--- src/lib.rt:120:9
 and-octet-requires-2 : tie.Need-and-octet-requires-2
 and-octet-requires-2 c κs = search needs
 
--- src/lib.rt:121:43
 add-and-octet-3 : tie.Need-add-and-octet-3
 add-and-octet-3 c = search needs
 
--- src/lib.rt:121:39
 shared-slice-read-and-octet-3 : tie.Need-shared-slice-read-and-octet-3
 shared-slice-read-and-octet-3 c = search needs
 
--- src/lib.rt:121:9
 and-octet-requires-3 : tie.Need-and-octet-requires-3
 and-octet-requires-3 c κs = let one = c .before .before .before .and-octet .ensures in let two = c .before .and-octet2 .ensures in (two .flag, omega (arith, one .few, two .few), omega (arith, one .held, two .held), omega arith)
 
--- src/lib.rt:122:35
 add-and-octet-4 : tie.Need-add-and-octet-4
 add-and-octet-4 c = search needs
 
--- src/lib.rt:122:31
 shared-slice-read-and-octet-4 : tie.Need-shared-slice-read-and-octet-4
 shared-slice-read-and-octet-4 c = search needs
 
--- src/lib.rt:122:5
 and-octet-requires-4 : tie.Need-and-octet-requires-4
 and-octet-requires-4 c κs = let one = c .before .before .before .before .before .and-octet .ensures in let two = c .before .before .before .and-octet2 .ensures in let three = c .before .and-octet3 .ensures in (three .flag, omega (arith, one .few, two .few, three .few), omega (arith, one .held, two .held, three .held), omega arith)
 
--- src/lib.rt:110:1
 returns : tie.Need-returns
 returns c = few-made (c .before .before .before .before .before .before .and-octet .ensures) (c .before .before .before .before .and-octet2 .ensures) (c .before .before .and-octet3 .ensures) (c .and-octet4 .ensures)
 

@@ -3,11 +3,9 @@ use Rattle.integer.proofs.Steps.{gated-is}
 use Rattle.integer.proofs.gated.Statement.{statement}
 use Rattle.integer.proofs.gated.Tie as tie
 
--- src/lib.rt:42:5
 mul-result : tie.Need-mul-result
 mul-result c = omega (arith, gated-is (c .args .flag) (c .args .n) (c .pre) .1)
 
--- src/lib.rt:38:1
 returns : tie.Need-returns
 returns c = gated-is (c .args .flag) (c .args .n) (c .pre)
 

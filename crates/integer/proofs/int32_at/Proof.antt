@@ -9,52 +9,40 @@ use borrow.Author.Needs.{needs}
 use Rattle.integer.proofs.int32_at.Statement.{statement}
 use Rattle.integer.proofs.int32_at.Tie as tie
 
--- src/lib.rt:168:9
 returns : tie.Need-returns
 returns c = record { same = λ e. sym (integer-end wide32 _ _ e (c .if1 .taken)); past = tt }
 
--- src/lib.rt:173:13
 shared-slice-read-b : tie.Need-shared-slice-read-b
 shared-slice-read-b c = search needs
 
--- src/lib.rt:175:30
 add-t12 : tie.Need-add-t12
 add-t12 c = search needs
 
--- src/lib.rt:175:61
 cast-signed32 : tie.Need-cast-signed32
 cast-signed32 c = search needs
 
--- src/lib.rt:175:38
 signed32-requires : tie.Need-signed32-requires
 signed32-requires c κs = search needs
 
--- src/lib.rt:175:9
 returns-2 : tie.Need-returns-2
 returns-2 c = record { same = λ e. told (returned w32 (c .signed32 .ok) (c .signed32 .ensures)) (integer-one wide32 _ _ e (lit≤ tt) (omega arith) (c .before .if2 .taken)); past = omega arith }
 
--- src/lib.rt:177:11
 tail-at-requires : tie.Need-tail-at-requires
 tail-at-requires c κs = search needs
 
--- src/lib.rt:178:24
 enum-known-next : tie.Need-enum-known-next
 enum-known-next c = search needs
 
--- src/lib.rt:178:56
 signed32-requires-2 : tie.Need-signed32-requires-2
 signed32-requires-2 c κs = found-past {w = wide32} (c .before .before .before .tail-at .ensures) (omega arith) (c .before .before .before .before .if2 .left) (c .before .next .given .1) .2
 
--- src/lib.rt:179:24
 enum-known-r : tie.Need-enum-known-r
 enum-known-r c = search needs
 
--- src/lib.rt:164:1
 returns-3 : tie.Need-returns-3
 returns-3 c = let f = found-past {w = wide32} (c .before .before .before .before .tail-at .ensures) (omega arith) (c .before .before .before .before .before .if2 .left) (c .before .before .next .given .1) in
     record { same = λ e. told (returned w32 (c .signed322 .ok) (c .signed322 .ensures)) (found-mag {w = wide32} (c .before .before .before .before .tail-at .ensures) (omega arith) (c .before .before .before .before .before .if2 .left) (c .before .before .next .given .1) e); past = (f .0, f .1) }
 
--- src/lib.rt:164:1
 returns-4 : tie.Need-returns-4
 returns-4 c = record { same = λ e. sym (found-ill {w = wide32} (c .before .before .before .tail-at .ensures) (omega arith) (c .before .before .before .before .if2 .left) (c .before .r .given .1) e); past = tt }
 

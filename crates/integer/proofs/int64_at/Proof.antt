@@ -9,52 +9,40 @@ use borrow.Author.Needs.{needs}
 use Rattle.integer.proofs.int64_at.Statement.{statement}
 use Rattle.integer.proofs.int64_at.Tie as tie
 
--- src/lib.rt:188:9
 returns : tie.Need-returns
 returns c = record { same = λ e. sym (integer-end wide64 _ _ e (c .if1 .taken)); past = tt }
 
--- src/lib.rt:193:13
 shared-slice-read-b : tie.Need-shared-slice-read-b
 shared-slice-read-b c = search needs
 
--- src/lib.rt:195:30
 add-t12 : tie.Need-add-t12
 add-t12 c = search needs
 
--- src/lib.rt:195:61
 cast-signed64 : tie.Need-cast-signed64
 cast-signed64 c = search needs
 
--- src/lib.rt:195:38
 signed64-requires : tie.Need-signed64-requires
 signed64-requires c κs = search needs
 
--- src/lib.rt:195:9
 returns-2 : tie.Need-returns-2
 returns-2 c = record { same = λ e. told (returned w64 (c .signed64 .ok) (c .signed64 .ensures)) (integer-one wide64 _ _ e (lit≤ tt) (omega arith) (c .before .if2 .taken)); past = omega arith }
 
--- src/lib.rt:197:11
 tail-at-requires : tie.Need-tail-at-requires
 tail-at-requires c κs = search needs
 
--- src/lib.rt:198:24
 enum-known-next : tie.Need-enum-known-next
 enum-known-next c = search needs
 
--- src/lib.rt:198:56
 signed64-requires-2 : tie.Need-signed64-requires-2
 signed64-requires-2 c κs = found-past {w = wide64} (c .before .before .before .tail-at .ensures) (omega arith) (c .before .before .before .before .if2 .left) (c .before .next .given .1) .2
 
--- src/lib.rt:199:24
 enum-known-r : tie.Need-enum-known-r
 enum-known-r c = search needs
 
--- src/lib.rt:184:1
 returns-3 : tie.Need-returns-3
 returns-3 c = let f = found-past {w = wide64} (c .before .before .before .before .tail-at .ensures) (omega arith) (c .before .before .before .before .before .if2 .left) (c .before .before .next .given .1) in
     record { same = λ e. told (returned w64 (c .signed642 .ok) (c .signed642 .ensures)) (found-mag {w = wide64} (c .before .before .before .before .tail-at .ensures) (omega arith) (c .before .before .before .before .before .if2 .left) (c .before .before .next .given .1) e); past = (f .0, f .1) }
 
--- src/lib.rt:184:1
 returns-4 : tie.Need-returns-4
 returns-4 c = record { same = λ e. sym (found-ill {w = wide64} (c .before .before .before .tail-at .ensures) (omega arith) (c .before .before .before .before .if2 .left) (c .before .r .given .1) e); past = tt }
 

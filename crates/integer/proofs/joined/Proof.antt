@@ -5,27 +5,21 @@ use borrow.Author.Needs.{needs}
 use Rattle.integer.proofs.joined.Statement.{statement}
 use Rattle.integer.proofs.joined.Tie as tie
 
--- src/lib.rt:64:9
 returns : tie.Need-returns
 returns c = rw (eq-eqb _ _ (c .if1 .taken))
 
--- src/lib.rt:70:38
 cast-t11 : tie.Need-cast-t11
 cast-t11 c = search needs
 
--- src/lib.rt:70:61
 mul-t12 : tie.Need-mul-t12
 mul-t12 c = search needs
 
--- src/lib.rt:70:37
 add-t13 : tie.Need-add-t13
 add-t13 c = search needs
 
--- src/lib.rt:70:9
 returns-2 : tie.Need-returns-2
 returns-2 c = let a = c .before .before .args in rw (ne-eqb _ _ (c .before .if1 .left), lt-ltb (a .first % 64 + 64 * a .bits) (a .bound) (omega arith))
 
--- src/lib.rt:59:1
 returns-3 : tie.Need-returns-3
 returns-3 c = let a = c .before .before .args in rw (ne-eqb _ _ (c .before .if1 .left), le-ltb (a .first % 64 + 64 * a .bits) (a .bound) (omega arith))
 

@@ -14,71 +14,54 @@ use Rattle.integer.proofs.few_at.Reads as few-at-reads
 use Rattle.integer.proofs.int64_at.Reads as int64-at-reads
 use Rattle.integer.proofs.signed64.Reads as signed64-reads
 
--- src/lib.rt:243:9
 returns : tie.Need-returns
 returns c = knows (record { same = λ e. sym (integer-end wide64 _ _ e (c .if1 .taken)); past = tt })
 
--- src/lib.rt:248:13
 shared-slice-read-b : tie.Need-shared-slice-read-b
 shared-slice-read-b c = search needs
 
--- src/lib.rt:250:30
 add-t12 : tie.Need-add-t12
 add-t12 c = search needs
 
--- src/lib.rt:250:61
 cast-signed64 : tie.Need-cast-signed64
 cast-signed64 c = search needs
 
--- src/lib.rt:250:38
 signed64-requires : tie.Need-signed64-requires
 signed64-requires c κs = search needs
 
--- src/lib.rt:250:9
 returns-2 : tie.Need-returns-2
 returns-2 c = knows (record { same = λ e. told (returned w64 (c .signed64 .ok) (c .signed64 .ensures)) (integer-one wide64 _ _ e (lit≤ tt) (omega arith) (c .before .if2 .taken)); past = omega arith })
 
--- src/lib.rt:252:13
 sub-if3 : tie.Need-sub-if3
 sub-if3 c = search needs
 
--- src/lib.rt:253:13
 few-at-requires : tie.Need-few-at-requires
 few-at-requires c κs = search needs
 
--- src/lib.rt:256:22
 cast-n : tie.Need-cast-n
 cast-n c = search needs
 
--- src/lib.rt:256:41
 mul-n : tie.Need-mul-n
 mul-n c = search needs
 
--- src/lib.rt:256:21
 add-n : tie.Need-add-n
 add-n c = search needs
 
--- src/lib.rt:257:34
 add-t23 : tie.Need-add-t23
 add-t23 c = search needs
 
--- src/lib.rt:257:34
 add-t24 : tie.Need-add-t24
 add-t24 c = search needs
 
--- src/lib.rt:257:50
 signed64-requires-2 : tie.Need-signed64-requires-2
 signed64-requires-2 c κs = search needs
 
--- src/lib.rt:257:13
 returns-3 : tie.Need-returns-3
 returns-3 c = few-known (omega arith) (λ i. c .before .before .before .before .before .before .before .before .before .shared-slice-known .given i .fits) (c .before .before .before .before .before .before .if2 .left) (c .before .before .before .before .few-at .ensures) (c .before .before .if4 .taken) (returned w64 (c .signed642 .ok) (c .signed642 .ensures))
 
--- src/lib.rt:260:5
 int64-at-requires : tie.Need-int64-at-requires
 int64-at-requires c κs = search needs
 
--- src/lib.rt:239:1
 returns-4 : tie.Need-returns-4
 returns-4 c = knows (c .int64-at .ensures)
 

@@ -15,75 +15,57 @@ Inv-loop src at first more bound bits₀ scale₀ next₀ left₀ bits scale nex
 abbrev μ-loop : tie.MeasureT-loop
 μ-loop src at first more bound bits₀ scale₀ next₀ left₀ bits scale next left = left
 
--- src/lib.rt:85:20
 add-next : tie.Need-add-next Inv-loop μ-loop
 add-next c = search needs
 
--- src/lib.rt:87:5
 loop-holds : tie.Need-loop-holds Inv-loop μ-loop
 loop-holds c = turn-first _ _ _ (c .before .pre .0) (c .before .pre .1)
 
--- src/lib.rt:89:13
 returns : tie.Need-returns Inv-loop μ-loop
 returns c = tail-ill _ _ _ _ _ _ (turn-ends (c .before .before .loop .inv) (c .before .loop-test .taken) (c .if1 .taken))
 
--- src/lib.rt:94:17
 shared-slice-read-b : tie.Need-shared-slice-read-b Inv-loop μ-loop
 shared-slice-read-b c = omega arith
 
--- src/lib.rt:95:9
 add-next-2 : tie.Need-add-next-2 Inv-loop μ-loop
 add-next-2 c = omega arith
 
--- src/lib.rt:97:54
 cast-joined : tie.Need-cast-joined Inv-loop μ-loop
 cast-joined c = omega (arith, c .if2 .taken)
 
--- src/lib.rt:97:45
 mul-joined : tie.Need-mul-joined Inv-loop μ-loop
 mul-joined c = omega (arith, one-more (c .before .before .before .before .loop .inv) (c .before .before .before .loop-test .taken), worth (c .before .before .before .before .loop .inv) (c .before .before .before .loop-test .taken) _ (c .if2 .taken))
 
--- src/lib.rt:97:38
 add-joined : tie.Need-add-joined Inv-loop μ-loop
 add-joined c = omega (arith, one-more (c .before .before .before .before .loop .inv) (c .before .before .before .loop-test .taken), worth (c .before .before .before .before .loop .inv) (c .before .before .before .loop-test .taken) _ (c .if2 .taken))
 
--- src/lib.rt:97:13
 joined-requires : tie.Need-joined-requires Inv-loop μ-loop
 joined-requires c κs = search needs
 
--- src/lib.rt:97:13
 returns-2 : tie.Need-returns-2 Inv-loop μ-loop
 returns-2 c = turn-joined (c .before .before .before .before .before .loop .inv) (c .before .before .before .before .loop-test .taken) (omega arith) (c .before .if2 .taken) (c .joined .ensures)
 
--- src/lib.rt:99:26
 cast-bits : tie.Need-cast-bits Inv-loop μ-loop
 cast-bits c = search needs
 
--- src/lib.rt:99:17
 mul-bits : tie.Need-mul-bits Inv-loop μ-loop
 mul-bits c = omega (arith, one-more (c .before .before .before .before .loop .inv) (c .before .before .before .loop-test .taken), worth (c .before .before .before .before .loop .inv) (c .before .before .before .loop-test .taken) (getD (c .before .before .before .before .before .before .args .src .now) (c .before .before .before .before .loop .next) 0 % 128) (omega arith))
 
--- src/lib.rt:99:9
 add-bits : tie.Need-add-bits Inv-loop μ-loop
 add-bits c = omega (arith, one-more (c .before .before .before .before .loop .inv) (c .before .before .before .loop-test .taken), worth (c .before .before .before .before .loop .inv) (c .before .before .before .loop-test .taken) (getD (c .before .before .before .before .before .before .args .src .now) (c .before .before .before .before .loop .next) 0 % 128) (omega arith))
 
--- src/lib.rt:100:9
 mul-scale : tie.Need-mul-scale Inv-loop μ-loop
 mul-scale c = omega (arith, one-more (c .before .before .before .before .loop .inv) (c .before .before .before .loop-test .taken))
 
--- src/lib.rt:101:9
 sub-left : tie.Need-sub-left Inv-loop μ-loop
 sub-left c = omega arith
 
--- src/lib.rt:87:5
 loop-less : tie.Need-loop-less Inv-loop μ-loop
 loop-less c = omega arith
 
--- src/lib.rt:87:5
 loop-again : tie.Need-loop-again Inv-loop μ-loop
 loop-again c = turn-again (c .before .before .before .before .loop .inv) (c .before .before .before .loop-test .taken) (omega arith) (c .if2 .left)
 
--- src/lib.rt:79:1
 returns-3 : tie.Need-returns-3 Inv-loop μ-loop
 returns-3 c = let s = c .before .before .before in let l = c .before .loop in let z : l .left ≡ 0 = omega arith in tail-ill _ _ _ _ _ _ (turn-over (subst (λ (n : ℕ). Turn (s .args .src .now) (s .args .at) (s .args .more) (l .bits) (l .scale) (l .next) n) z (l .inv)))
 

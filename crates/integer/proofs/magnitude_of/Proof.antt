@@ -5,19 +5,15 @@ use Rattle.integer.proofs.Signs.{down-read, up-read, cast-read}
 use Rattle.integer.proofs.magnitude_of.Statement.{statement}
 use Rattle.integer.proofs.magnitude_of.Tie as tie
 
--- src/lib.rt:210:16
 cast-result : tie.Need-cast-result
 cast-result c = let s = c .before in cast-read w64 (s .args .v) (s .fits .v) _ (down-read w64 (s .args .v) (s .fits .v) (c .if1 .taken))
 
--- src/lib.rt:210:9
 returns : tie.Need-returns
 returns c = let s = c .before in ap natAbs (down-read w64 (s .args .v) (s .fits .v) (c .if1 .taken))
 
--- src/lib.rt:212:5
 cast-result-2 : tie.Need-cast-result-2
 cast-result-2 c = let s = c .before in cast-read w64 (s .args .v) (s .fits .v) _ (up-read w64 (s .args .v) (s .fits .v) (c .if1 .left))
 
--- src/lib.rt:206:1
 returns-2 : tie.Need-returns-2
 returns-2 c = let s = c .before in ap natAbs (up-read w64 (s .args .v) (s .fits .v) (c .if1 .left))
 

@@ -14,32 +14,25 @@ Inv-loop v n m₀ count₀ m count = Counted m₀ m count
 abbrev μ-loop : tie.MeasureT-loop
 μ-loop v n m₀ count₀ m count = m
 
--- src/lib.rt:229:9
 magnitude-of-requires : tie.Need-magnitude-of-requires Inv-loop μ-loop
 magnitude-of-requires c κs = tt
 
--- src/lib.rt:231:9
 returns : tie.Need-returns Inv-loop μ-loop
 unfolding spellInt
 returns c = let s = c .before .before in let m : c .before .magnitude-of .result ≡ mag (s .args .v) = c .before .magnitude-of .ensures ∙ ap mag (toZ-ofZ w64 (s .args .v) (s .fits .v)) in sym (length-one (signBit (s .args .v)) (mag (s .args .v)) (omega arith))
 
--- src/lib.rt:235:5
 loop-holds : tie.Need-loop-holds Inv-loop μ-loop
 loop-holds c = counted-first _ (omega arith)
 
--- src/lib.rt:237:9
 add-count : tie.Need-add-count Inv-loop μ-loop
 add-count c = let k = c .before .loop .inv in omega (arith, k .total, k .few)
 
--- src/lib.rt:235:5
 loop-less : tie.Need-loop-less Inv-loop μ-loop
 loop-less c = omega arith
 
--- src/lib.rt:235:5
 loop-again : tie.Need-loop-again Inv-loop μ-loop
 loop-again c = counted-again (c .before .loop .inv) (c .loop-test .taken)
 
--- src/lib.rt:226:1
 returns-2 : tie.Need-returns-2 Inv-loop μ-loop
 unfolding spellInt
 returns-2 c = let s = c .before .before .before .before in let m : c .before .before .before .magnitude-of .result ≡ mag (s .args .v) = c .before .before .before .magnitude-of .ensures ∙ ap mag (toZ-ofZ w64 (s .args .v) (s .fits .v)) in counted-last (c .before .loop .inv) (omega arith) ∙ sym (rw m (length-more (signBit (s .args .v)) (mag (s .args .v)) (omega arith)))

@@ -7,59 +7,45 @@ use borrow.Author.Needs.{needs}
 use Rattle.integer.proofs.put.Statement.{statement}
 use Rattle.integer.proofs.put.Tie as tie
 
--- src/lib.rt:261:25
 cast-out : tie.Need-cast-out
 cast-out c = search needs
 
--- src/lib.rt:261:19
 add-out : tie.Need-add-out
 add-out c = search needs
 
--- src/lib.rt:261:9
 slice-write-out : tie.Need-slice-write-out
 slice-write-out c = room-one (spellWith-one _ _ (c .if1 .taken)) (c .before .before .pre .1)
 
--- src/lib.rt:262:16
 add-result : tie.Need-add-result
 add-result c = omega (arith, room-one (spellWith-one _ _ (c .if1 .taken)) (c .before .before .pre .1))
 
--- src/lib.rt:262:9
 same-length : tie.Need-same-length
 same-length c = search needs
 
--- src/lib.rt:262:9
 returns : tie.Need-returns
 returns c = wrote-last _ _ (spellWith-one _ _ (c .if1 .taken))
 
--- src/lib.rt:264:15
 add-out-2 : tie.Need-add-out-2
 add-out-2 c = search needs
 
--- src/lib.rt:264:27
 cast-out-2 : tie.Need-cast-out-2
 cast-out-2 c = search needs
 
--- src/lib.rt:264:15
 add-out-3 : tie.Need-add-out-3
 add-out-3 c = search needs
 
--- src/lib.rt:264:5
 slice-write-out-2 : tie.Need-slice-write-out-2
 slice-write-out-2 c = room-one (spellWith-more _ _ (c .if1 .left)) (c .before .before .pre .1)
 
--- src/lib.rt:265:19
 add-put-rest : tie.Need-add-put-rest
 add-put-rest c = omega (arith, room-one (spellWith-more _ _ (c .before .if1 .left)) (c .before .before .before .pre .1))
 
--- src/lib.rt:265:5
 put-rest-requires : tie.Need-put-rest-requires
 put-rest-requires c κs = room-more (spellWith-more _ _ (c .before .if1 .left)) (c .before .before .before .pre .1)
 
--- src/lib.rt:256:1
 same-length-2 : tie.Need-same-length-2
 same-length-2 c = c .before .before .put-rest .kept .0 ∙ simp length-set
 
--- src/lib.rt:256:1
 returns-2 : tie.Need-returns-2
 returns-2 c = wrote-more (spellWith-more _ _ (c .before .before .before .before .if1 .left)) (c .before .before .put-rest .ensures)
 

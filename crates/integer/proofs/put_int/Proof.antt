@@ -8,24 +8,19 @@ use borrow.Author.Needs.{needs}
 use Rattle.integer.proofs.put_int.Statement.{statement}
 use Rattle.integer.proofs.put_int.Tie as tie
 
--- src/lib.rt:273:18
 sign-bit-requires : tie.Need-sign-bit-requires
 sign-bit-requires c κs = search needs
 
--- src/lib.rt:273:31
 magnitude-of-requires : tie.Need-magnitude-of-requires
 magnitude-of-requires c κs = search needs
 
--- src/lib.rt:273:5
 put-requires : tie.Need-put-requires
 unfolding spellInt
 put-requires c κs = let v = toZ-ofZ w64 _ (c .before .before .before .before .fits .v) in rw (c .before .sign-bit .ensures ∙ ap signBit v, c .magnitude-of .ensures ∙ ap mag v) (signBit-le (c .before .before .before .before .args .v), c .before .before .before .before .pre)
 
--- src/lib.rt:269:1
 same-length : tie.Need-same-length
 same-length c = search needs
 
--- src/lib.rt:269:1
 returns : tie.Need-returns
 unfolding spellInt
 returns c = let v = toZ-ofZ w64 _ (c .before .before .before .before .before .before .before .fits .v) in rw (c .before .before .before .before .sign-bit .ensures ∙ ap signBit v, c .before .before .before .magnitude-of .ensures ∙ ap mag v) at (c .before .before .put .ensures)

@@ -5,11 +5,9 @@ use Rattle.integer.proofs.Signs.{is-negative, is-positive}
 use Rattle.integer.proofs.sign_bit.Statement.{statement}
 use Rattle.integer.proofs.sign_bit.Tie as tie
 
--- src/lib.rt:220:9
 returns : tie.Need-returns
 returns c = sym (ap signBit (is-negative w64 (c .before .args .v) (c .before .fits .v) (c .if1 .taken)))
 
--- src/lib.rt:216:1
 returns-2 : tie.Need-returns-2
 returns-2 c = sym (ap signBit (is-positive w64 (c .before .args .v) (c .before .fits .v) (c .if1 .left)))
 

@@ -4,15 +4,12 @@ use borrow.Author.Needs.{needs}
 use Rattle.integer.proofs.signed64.Statement.{statement}
 use Rattle.integer.proofs.signed64.Tie as tie
 
--- src/lib.rt:156:13
 cast-v : tie.Need-cast-v
 cast-v c = search needs
 
--- src/lib.rt:158:9
 returns : tie.Need-returns
 returns c = signed-yes w64 _ _ (c .before .pre) (c .if1 .taken)
 
--- src/lib.rt:152:1
 returns-2 : tie.Need-returns-2
 returns-2 c = signed-no w64 _ _ (c .before .pre) (c .if1 .left)
 

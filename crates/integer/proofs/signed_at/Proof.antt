@@ -9,67 +9,51 @@ use borrow.Author.Needs.{needs}
 use Rattle.integer.proofs.signed_at.Statement.{statement}
 use Rattle.integer.proofs.signed_at.Tie as tie
 
--- src/lib.rt:195:9
 returns : tie.Need-returns
 returns c = record { same = λ e. sym (integer-end wide32 _ _ e (c .if1 .taken)); past = tt }
 
--- src/lib.rt:200:13
 shared-slice-read-b : tie.Need-shared-slice-read-b
 shared-slice-read-b c = search needs
 
--- src/lib.rt:202:33
 add-t12 : tie.Need-add-t12
 add-t12 c = search needs
 
--- src/lib.rt:202:41
 cast-t13 : tie.Need-cast-t13
 cast-t13 c = search needs
 
--- src/lib.rt:202:9
 returns-2 : tie.Need-returns-2
 returns-2 c = record { same = λ e. told (one-positive _ (c .if2 .taken)) (integer-one wide32 _ _ e (lit≤ tt) (omega arith) (omega arith)); past = omega arith }
 
--- src/lib.rt:205:33
 add-t14 : tie.Need-add-t14
 add-t14 c = search needs
 
--- src/lib.rt:205:41
 cast-t16 : tie.Need-cast-t16
 cast-t16 c = search needs
 
--- src/lib.rt:205:9
 returns-3 : tie.Need-returns-3
 returns-3 c = record { same = λ e. told (one-negative _ (c .before .if2 .left) (c .if3 .taken)) (integer-one wide32 _ _ e (lit≤ tt) (omega arith) (c .if3 .taken)); past = omega arith }
 
--- src/lib.rt:207:11
 tail-at-requires : tie.Need-tail-at-requires
 tail-at-requires c κs = search needs
 
--- src/lib.rt:208:24
 enum-known-next : tie.Need-enum-known-next
 enum-known-next c = search needs
 
--- src/lib.rt:210:47
 cast-t20 : tie.Need-cast-t20
 cast-t20 c = omega (arith, found-past {w = wide32} (c .before .before .before .before .tail-at .ensures) (omega arith) (c .before .before .before .before .before .if3 .left) (c .before .before .next .given .1) .2)
 
--- src/lib.rt:210:17
 returns-4 : tie.Need-returns-4
 returns-4 c = record { same = λ e. told (more-positive _ _ (c .before .before .before .before .before .if3 .left) (c .if4 .taken)) (found-mag {w = wide32} (c .before .before .before .before .tail-at .ensures) (omega arith) (c .before .before .before .before .before .if3 .left) (c .before .before .next .given .1) e); past = found-past {w = wide32} (c .before .before .before .before .tail-at .ensures) (omega arith) (c .before .before .before .before .before .if3 .left) (c .before .before .next .given .1) }
 
--- src/lib.rt:212:36
 cast-t21 : tie.Need-cast-t21
 cast-t21 c = omega (arith, found-past {w = wide32} (c .before .before .before .before .tail-at .ensures) (omega arith) (c .before .before .before .before .before .if3 .left) (c .before .before .next .given .1) .2)
 
--- src/lib.rt:214:24
 enum-known-r : tie.Need-enum-known-r
 enum-known-r c = search needs
 
--- src/lib.rt:191:1
 returns-5 : tie.Need-returns-5
 returns-5 c = record { same = λ e. told (more-negative _ _ (c .if4 .left) (c .before .before .before .before .before .before .before .shared-slice-known2 .given _ .fits)) (found-mag {w = wide32} (c .before .before .before .before .tail-at .ensures) (omega arith) (c .before .before .before .before .before .if3 .left) (c .before .before .next .given .1) e); past = found-past {w = wide32} (c .before .before .before .before .tail-at .ensures) (omega arith) (c .before .before .before .before .before .if3 .left) (c .before .before .next .given .1) }
 
--- src/lib.rt:191:1
 returns-6 : tie.Need-returns-6
 returns-6 c = record { same = λ e. sym (found-ill {w = wide32} (c .before .before .before .tail-at .ensures) (omega arith) (c .before .before .before .before .if3 .left) (c .before .r .given .1) e); past = tt }
 

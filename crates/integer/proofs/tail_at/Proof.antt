@@ -4,43 +4,33 @@ use borrow.Author.Needs.{needs}
 use Rattle.integer.proofs.tail_at.Statement.{statement}
 use Rattle.integer.proofs.tail_at.Tie as tie
 
--- src/lib.rt:130:13
 sub-if1 : tie.Need-sub-if1
 sub-if1 c = search needs
 
--- src/lib.rt:131:13
 few-at-requires : tie.Need-few-at-requires
 few-at-requires c κs = search needs
 
--- src/lib.rt:134:50
 add-joined : tie.Need-add-joined
 add-joined c = search needs
 
--- src/lib.rt:134:46
 shared-slice-read-joined : tie.Need-shared-slice-read-joined
 shared-slice-read-joined c = search needs
 
--- src/lib.rt:134:63
 add-joined-2 : tie.Need-add-joined-2
 add-joined-2 c = search needs
 
--- src/lib.rt:134:63
 add-joined-3 : tie.Need-add-joined-3
 add-joined-3 c = search needs
 
--- src/lib.rt:134:13
 joined-requires : tie.Need-joined-requires
 joined-requires c κs = search needs
 
--- src/lib.rt:134:13
 returns : tie.Need-returns
 returns c = few-joined (c .before .before .before .before .before .before .before .pre .1) (omega arith) (λ i. c .before .before .before .before .before .before .shared-slice-known .given i .fits) (c .before .before .before .before .few-at .ensures) (c .before .before .if2 .taken) (c .joined .ensures)
 
--- src/lib.rt:137:5
 long-at-requires : tie.Need-long-at-requires
 long-at-requires c κs = search needs
 
--- src/lib.rt:126:1
 returns-2 : tie.Need-returns-2
 returns-2 c = search needs
 

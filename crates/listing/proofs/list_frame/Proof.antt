@@ -14,125 +14,95 @@ use Rattle.listing.proofs.put_rows.Reads as put-rows-reads
 use Rattle.text.proofs.put_accepted.Reads as put-accepted-reads
 use Rattle.text.proofs.put_refused.Reads as put-refused-reads
 
--- src/lib.rt:72:9
 slice-aggregate-read-frame : tie.Need-slice-aggregate-read-frame
 slice-aggregate-read-frame c = search needs
 
--- src/lib.rt:73:9
 slice-aggregate-read-frame-2 : tie.Need-slice-aggregate-read-frame-2
 slice-aggregate-read-frame-2 c = search needs
 
--- src/lib.rt:74:9
 slice-aggregate-read-frame-3 : tie.Need-slice-aggregate-read-frame-3
 slice-aggregate-read-frame-3 c = search needs
 
--- src/lib.rt:75:9
 slice-aggregate-read-frame-4 : tie.Need-slice-aggregate-read-frame-4
 slice-aggregate-read-frame-4 c = search needs
 
--- src/lib.rt:76:9
 slice-aggregate-read-frame-5 : tie.Need-slice-aggregate-read-frame-5
 slice-aggregate-read-frame-5 c = search needs
 
--- src/lib.rt:77:9
 slice-aggregate-read-frame-6 : tie.Need-slice-aggregate-read-frame-6
 slice-aggregate-read-frame-6 c = search needs
 
--- src/lib.rt:78:9
 slice-aggregate-read-frame-7 : tie.Need-slice-aggregate-read-frame-7
 slice-aggregate-read-frame-7 c = search needs
 
--- src/lib.rt:79:9
 slice-aggregate-read-frame-8 : tie.Need-slice-aggregate-read-frame-8
 slice-aggregate-read-frame-8 c = search needs
 
--- src/lib.rt:80:9
 slice-aggregate-read-frame-9 : tie.Need-slice-aggregate-read-frame-9
 slice-aggregate-read-frame-9 c = search needs
 
--- src/lib.rt:81:9
 slice-aggregate-read-frame-10 : tie.Need-slice-aggregate-read-frame-10
 slice-aggregate-read-frame-10 c = search needs
 
--- src/lib.rt:70:11
 read-frame-requires : tie.Need-read-frame-requires
 read-frame-requires c κs = search needs
 
--- src/lib.rt:83:25
 enum-known-r : tie.Need-enum-known-r
 enum-known-r c = search needs
 
--- src/lib.rt:83:31
 put-refused-requires : tie.Need-put-refused-requires
 put-refused-requires c κs = room-28 (omega (arith, c .before .known-told .given)) (omega (arith, c .before .known-told .given)) (c .before .before .before .before .before .before .before .before .before .before .before .before .before .before .before .before .before .before .before .before .before .before .before .before .before .before .before .pre)
 
--- src/lib.rt:84:25
 enum-known-n : tie.Need-enum-known-n
 enum-known-n c = search needs
 
--- src/lib.rt:85:17
 put-accepted-requires : tie.Need-put-accepted-requires
 put-accepted-requires c κs = room-36 {c = c .before .before .n .given .0 .1 .1 .0} (held {w = w32} (record { sfits = c .before .known-told2 .given .1 .1 .0 .1 })) (c .before .known-told2 .given .1 .1 .0 .1) (c .before .known-told2 .given .1 .0 .1) (c .before .before .before .before .before .before .before .before .before .before .before .before .before .before .before .before .before .before .before .before .before .before .before .before .before .before .before .pre)
 
--- src/lib.rt:87:17
 slice-aggregate-put-rows : tie.Need-slice-aggregate-put-rows
 slice-aggregate-put-rows c = search needs
 
--- src/lib.rt:88:17
 slice-aggregate-put-rows-2 : tie.Need-slice-aggregate-put-rows-2
 slice-aggregate-put-rows-2 c = search needs
 
--- src/lib.rt:89:17
 slice-aggregate-put-rows-3 : tie.Need-slice-aggregate-put-rows-3
 slice-aggregate-put-rows-3 c = search needs
 
--- src/lib.rt:90:17
 slice-aggregate-put-rows-4 : tie.Need-slice-aggregate-put-rows-4
 slice-aggregate-put-rows-4 c = search needs
 
--- src/lib.rt:91:17
 slice-aggregate-put-rows-5 : tie.Need-slice-aggregate-put-rows-5
 slice-aggregate-put-rows-5 c = search needs
 
--- src/lib.rt:92:17
 slice-aggregate-put-rows-6 : tie.Need-slice-aggregate-put-rows-6
 slice-aggregate-put-rows-6 c = search needs
 
--- src/lib.rt:93:17
 slice-aggregate-put-rows-7 : tie.Need-slice-aggregate-put-rows-7
 slice-aggregate-put-rows-7 c = search needs
 
--- src/lib.rt:94:17
 slice-aggregate-put-rows-8 : tie.Need-slice-aggregate-put-rows-8
 slice-aggregate-put-rows-8 c = search needs
 
--- src/lib.rt:95:17
 slice-aggregate-put-rows-9 : tie.Need-slice-aggregate-put-rows-9
 slice-aggregate-put-rows-9 c = search needs
 
--- src/lib.rt:96:17
 slice-aggregate-put-rows-10 : tie.Need-slice-aggregate-put-rows-10
 slice-aggregate-put-rows-10 c = search needs
 
--- src/lib.rt:86:13
 put-rows-requires : tie.Need-put-rows-requires
 unfolding shortest
 put-rows-requires c κs = rows-fit _ (c .before .before .before .before .before .before .before .before .before .before .before .before .before .before .before .before .before .before .before .before .before .before .before .before .before .before .before .before .read-frame .ensures) refl (c .before .before .before .before .before .before .before .before .before .before .before .before .before .before .before .before .n .given .1) (λ i. c .before .before .before .before .before .before .before .before .before .before .before .before .before .before .before .before .before .before .before .before .before .before .before .before .before .before .before .before .before .before .before .before .before .before .before .before .before .before .before .before .shared-slice-known .given i .fits) (held (record { sfits = c .before .before .before .before .before .before .before .before .before .before .before .before .before .before .before .known-told2 .given .1 .1 .0 .1 })) (c .before .before .before .before .before .before .before .before .before .before .before .before .before .before .before .known-told2 .given .1 .1 .0 .1) (c .before .before .before .before .before .before .before .before .before .before .before .before .before .put-accepted .ensures) (c .before .before .before .before .before .before .before .before .before .before .before .before .before .before .before .before .before .before .before .before .before .before .before .before .before .before .before .before .before .before .before .before .before .before .before .before .before .before .before .before .before .pre)
 
--- src/lib.rt:56:1
 same-length : tie.Need-same-length
 same-length c = search needs
 
--- src/lib.rt:56:1
 returns : tie.Need-returns
 unfolding shortest
 returns c = listed-refused _ (c .before .before .before .before .before .before .before .before .before .before .before .before .before .before .before .before .before .read-frame .ensures) refl (c .before .before .before .before .before .r .given .1) (omega (arith, c .before .before .before .before .known-told .given)) (omega (arith, c .before .before .before .before .known-told .given)) (c .before .before .put-refused .ensures)
 
--- src/lib.rt:56:1
 same-length-2 : tie.Need-same-length-2
 same-length-2 c = search needs
 
--- src/lib.rt:56:1
 returns-2 : tie.Need-returns-2
 unfolding shortest
 returns-2 c = listed-rows _ (c .before .before .before .before .before .before .before .before .before .before .before .before .before .before .before .before .before .before .before .before .before .before .before .before .before .before .before .before .before .before .before .read-frame .ensures) refl (c .before .before .before .before .before .before .before .before .before .before .before .before .before .before .before .before .before .before .before .n .given .1) (λ i. c .before .before .before .before .before .before .before .before .before .before .before .before .before .before .before .before .before .before .before .before .before .before .before .before .before .before .before .before .before .before .before .before .before .before .before .before .before .before .before .before .before .before .before .shared-slice-known .given i .fits) (held (record { sfits = c .before .before .before .before .before .before .before .before .before .before .before .before .before .before .before .before .before .before .known-told2 .given .1 .1 .0 .1 })) (c .before .before .before .before .before .before .before .before .before .before .before .before .before .before .before .before .before .before .known-told2 .given .1 .1 .0 .1) (c .before .before .before .before .before .before .before .before .before .before .before .before .before .before .before .before .put-accepted .ensures) (c .before .before .put-rows .ensures)

@@ -11,51 +11,39 @@ use Rattle.listing.proofs.list_frame.Reads as list-frame-reads
 use Rattle.text.proofs.line_octets.Reads as line-octets-reads
 use Rattle.text.proofs.put_refused.Reads as put-refused-reads
 
--- src/lib.rt:111:35
 slice-aggregate-line-octets : tie.Need-slice-aggregate-line-octets
 slice-aggregate-line-octets c = search needs
 
--- src/lib.rt:111:11
 line-octets-requires : tie.Need-line-octets-requires
 line-octets-requires c κs = search needs
 
--- src/lib.rt:113:13
 enum-told : tie.Need-enum-told
 enum-told c = search needs
 
--- src/lib.rt:112:22
 put-refused-requires : tie.Need-put-refused-requires
 put-refused-requires c κs = room-28 (omega arith) (omega arith) (c .before .before .before .before .before .before .before .before .pre)
 
--- src/lib.rt:120:22
 enum-known-n : tie.Need-enum-known-n
 enum-known-n c = search needs
 
--- src/lib.rt:120:39
 array-share-prefix-octets : tie.Need-array-share-prefix-octets
 array-share-prefix-octets c = let h = rw (c .before .n .given .1) at (c .before .before .before .before .line-octets .ensures) in line-octets _ (h .0) (h .1) (omega arith) .1
 
--- src/lib.rt:120:39
 slice-aggregate-list-frame : tie.Need-slice-aggregate-list-frame
 slice-aggregate-list-frame c = let h = rw (c .before .before .n .given .1) at (c .before .before .before .before .before .line-octets .ensures) in sym (length-take-le _ _ (line-octets _ (h .0) (h .1) (omega arith) .1))
 
--- src/lib.rt:120:28
 list-frame-requires : tie.Need-list-frame-requires
 list-frame-requires c κs = search needs
 
--- src/lib.rt:106:1
 same-length : tie.Need-same-length
 same-length c = search needs
 
--- src/lib.rt:106:1
 returns : tie.Need-returns
 returns c = let h = rw (c .before .before .before .before .enum-told .given .1) at (c .before .before .before .before .before .before .before .line-octets .ensures) in listed-other _ (h .0) (c .before .before .put-refused .ensures)
 
--- src/lib.rt:106:1
 same-length-2 : tie.Need-same-length-2
 same-length-2 c = search needs
 
--- src/lib.rt:106:1
 returns-2 : tie.Need-returns-2
 returns-2 c = let h = rw (c .before .before .before .before .before .before .n .given .1) at (c .before .before .before .before .before .before .before .before .before .line-octets .ensures) in listed-line _ (h .0) (line-octets _ (h .0) (h .1) (omega arith) .0) (c .before .before .list-frame .ensures)
 

@@ -18,59 +18,45 @@ Inv-loop src out₀ n used₀ written₀ out used written = (n ≡ length src) �
 abbrev μ-loop : tie.MeasureT-loop
 μ-loop src out₀ n used₀ written₀ out used written = length src - used
 
--- src/lib.rt:134:5
 loop-holds : tie.Need-loop-holds Inv-loop μ-loop
 loop-holds c = (refl, going-none)
 
--- src/lib.rt:134:20
 sub-loop : tie.Need-sub-loop Inv-loop μ-loop
 sub-loop c = omega (arith, c .loop .inv .1 .room, wrote-kept (c .loop .inv .1 .wrote))
 
--- src/lib.rt:135:13
 find-requires : tie.Need-find-requires Inv-loop μ-loop
 find-requires c κs = search needs
 
--- src/lib.rt:139:29
 sub-list-line : tie.Need-sub-list-line Inv-loop μ-loop
 sub-list-line c = search needs
 
--- src/lib.rt:139:29
 part-list-line-start : tie.Need-part-list-line-start Inv-loop μ-loop
 part-list-line-start c = search needs
 
--- src/lib.rt:139:29
 part-list-line-end : tie.Need-part-list-line-end Inv-loop μ-loop
 part-list-line-end c = search needs
 
--- src/lib.rt:139:9
 list-line-requires : tie.Need-list-line-requires Inv-loop μ-loop
 list-line-requires c κs = omega (arith, c .before .before .before .before .loop-test .taken, c .before .before .before .before .before .loop .inv .1 .room, wrote-kept (c .before .before .before .before .before .loop .inv .1 .wrote))
 
--- src/lib.rt:140:16
 add-used : tie.Need-add-used Inv-loop μ-loop
 add-used c = search needs
 
--- src/lib.rt:134:5
 loop-less : tie.Need-loop-less Inv-loop μ-loop
 loop-less c = omega (arith, c .before .before .before .before .before .before .before .before .loop .inv .1 .within, c .before .before .before .before .before .before .before .before .loop .inv .0, c .before .before .before .before .before .before .find .ensures .0, c .before .before .before .before .before .before .find .ensures .1, c .before .before .before .before .before .if1 .left)
 
--- src/lib.rt:134:5
 loop-again : tie.Need-loop-again Inv-loop μ-loop
 loop-again c = (refl, going-again (c .before .before .before .before .before .before .before .before .loop .inv .1) refl (c .before .before .before .before .before .before .find .ensures .0) (omega (arith, c .before .before .before .before .before .before .find .ensures .1, c .before .before .before .before .before .if1 .left)) (omega (arith, c .before .before .before .before .before .before .before .loop-test .taken, c .before .before .before .before .before .before .before .before .loop .inv .1 .room, wrote-kept (c .before .before .before .before .before .before .before .before .loop .inv .1 .wrote))) (c .before .before .list-line .ensures))
 
--- src/lib.rt:128:1
 same-length : tie.Need-same-length Inv-loop μ-loop
 same-length c = wrote-kept (c .before .loop .inv .1 .wrote)
 
--- src/lib.rt:128:1
 returns : tie.Need-returns Inv-loop μ-loop
 returns c = listed-lines (c .before .loop .inv .1) (λ k. absurd (omega (arith, k, c .loop-test .left, c .before .loop .inv .1 .room, wrote-kept (c .before .loop .inv .1 .wrote))))
 
--- src/lib.rt:128:1
 same-length-2 : tie.Need-same-length-2 Inv-loop μ-loop
 same-length-2 c = wrote-kept (c .before .before .before .loop .inv .1 .wrote)
 
--- src/lib.rt:128:1
 returns-2 : tie.Need-returns-2 Inv-loop μ-loop
 returns-2 c = listed-lines (c .before .before .before .loop .inv .1) (λ k. no-line (c .before .before .before .loop .inv .1) refl (c .before .find .ensures .0) (c .if1 .taken))
 

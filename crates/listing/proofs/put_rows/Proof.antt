@@ -18,35 +18,27 @@ Inv-loop ty own label number first second place below start end n out₀ at next
 abbrev μ-loop : tie.MeasureT-loop
 μ-loop ty own label number first second place below start end n out₀ at next₀ k₀ out next k = n - k
 
--- src/lib.rt:35:5
 loop-holds : tie.Need-loop-holds Inv-loop μ-loop
 loop-holds c = (omega arith, rowed-none _)
 
--- src/lib.rt:36:13
 row-at-requires : tie.Need-row-at-requires Inv-loop μ-loop
 row-at-requires c κs = row-room (c .before .before .before .before .before .before .before .before .before .pre .0) (c .loop-test .taken)
 
--- src/lib.rt:49:9
 put-row-requires : tie.Need-put-row-requires Inv-loop μ-loop
 put-row-requires c κs = rowed-room (c .before .before .before .loop .inv .1) (c .before .row-at .ensures) (c .before .before .before .before .before .before .before .before .before .before .before .pre .1) (c .before .before .loop-test .taken)
 
--- src/lib.rt:50:9
 add-k : tie.Need-add-k Inv-loop μ-loop
 add-k c = omega arith
 
--- src/lib.rt:35:5
 loop-less : tie.Need-loop-less Inv-loop μ-loop
 loop-less c = omega arith
 
--- src/lib.rt:35:5
 loop-again : tie.Need-loop-again Inv-loop μ-loop
 loop-again c = (omega arith, rowed-again (c .before .before .before .before .before .before .loop .inv .1) (c .before .before .before .before .row-at .ensures) (c .before .before .put-row .ensures))
 
--- src/lib.rt:15:1
 same-length : tie.Need-same-length Inv-loop μ-loop
 same-length c = wrote-kept (c .before .loop .inv .1 .wrote)
 
--- src/lib.rt:15:1
 returns : tie.Need-returns Inv-loop μ-loop
 returns c = rowed-all (c .loop-test .left) (c .before .loop .inv)
 

@@ -52,151 +52,114 @@ elements-Inv-loop src ids₀ before depth named id indexed paired count form oth
 abbrev elements-μ-loop : elements-lts.MeasureT-loop
 elements-μ-loop src ids₀ before depth named id indexed paired count form other at₀ low₀ rows₀ ids at low rows = count - low
 
--- src/lib.rt:317:5
 elements-open-id-requires : (t : ℕ) → elements-lts.Need-open-id-requires (elements-claims t) (elements-at t) elements.Post elements-Inv-loop elements-μ-loop
 elements-open-id-requires t c κs = (c .before .before .before .before .pre .1 .good, c .before .before .before .before .pre .1 .room)
 
--- src/lib.rt:318:5
 elements-loop-holds : (t : ℕ) → elements-lts.Need-loop-holds (elements-claims t) (elements-at t) elements.Post elements-Inv-loop elements-μ-loop
 elements-loop-holds t c = turning-first (c .before .before .before .before .before .before .before .pre .1) (c .before .before .open-id .ensures)
 
--- src/lib.rt:319:15
 elements-next-at-requires : (t : ℕ) → elements-lts.Need-next-at-requires (elements-claims t) (elements-at t) elements.Post elements-Inv-loop elements-μ-loop
 elements-next-at-requires t c κs = c .loop .inv .within
 
--- src/lib.rt:320:24
 elements-enum-known-r : (t : ℕ) → elements-lts.Need-enum-known-r (elements-claims t) (elements-at t) elements.Post elements-Inv-loop elements-μ-loop
 elements-enum-known-r t c = c .match .keys1
 
--- src/lib.rt:320:30
 elements-same-length : (t : ℕ) → elements-lts.Need-same-length (elements-claims t) (elements-at t) elements.Post elements-Inv-loop elements-μ-loop
 elements-same-length t c = c .before .before .before .before .loop .inv .good .long ∙ sym (c .before .before .before .before .before .before .before .before .before .before .before .before .pre .1 .good .long)
 
--- src/lib.rt:320:30
 elements-returns : (t : ℕ) → elements-lts.Need-returns (elements-claims t) (elements-at t) elements.Post elements-Inv-loop elements-μ-loop
 elements-returns t c = held-halted _ (c .before .before .before .before .before .before .before .before .before .before .before .before .pre .1) (c .before .before .before .before .before .before .before .open-id .ensures) (c .before .before .before .before .loop .inv) (c .before .before .before .next-at .ensures) (c .before .r .given .1)
 
--- src/lib.rt:321:23
 elements-enum-known-next : (t : ℕ) → elements-lts.Need-enum-known-next (elements-claims t) (elements-at t) elements.Post elements-Inv-loop elements-μ-loop
 elements-enum-known-next t c = c .match .keys2
 
--- src/lib.rt:322:17
 elements-end-id-requires : (t : ℕ) → elements-lts.Need-end-id-requires (elements-claims t) (elements-at t) elements.Post elements-Inv-loop elements-μ-loop
 elements-end-id-requires t c κs = can-end _ (c .before .before .before .before .before .before .before .before .before .before .before .before .before .pre .1) (c .before .before .before .before .before .before .before .before .open-id .ensures) (c .before .before .before .before .before .loop .inv) (c .before .before .before .before .next-at .ensures)
 
--- src/lib.rt:323:17
 elements-same-length-2 : (t : ℕ) → elements-lts.Need-same-length-2 (elements-claims t) (elements-at t) elements.Post elements-Inv-loop elements-μ-loop
 elements-same-length-2 t c = c .before .before .end-id .kept .0 ∙ c .before .before .before .before .before .before .before .before .loop .inv .good .long ∙ sym (c .before .before .before .before .before .before .before .before .before .before .before .before .before .before .before .before .pre .1 .good .long)
 
--- src/lib.rt:323:17
 elements-returns-2 : (t : ℕ) → elements-lts.Need-returns-2 (elements-claims t) (elements-at t) elements.Post elements-Inv-loop elements-μ-loop
 elements-returns-2 t c = held-ended _ (c .before .before .before .before .before .before .before .before .before .before .before .before .before .before .before .before .pre .1) (c .before .before .before .before .before .before .before .before .before .before .before .open-id .ensures) (c .before .before .before .before .before .before .before .before .loop .inv) (c .before .before .before .before .before .before .before .next-at .ensures) (c .before .before .before .before .before .next .given .1) (c .before .before .end-id .ensures)
 
--- src/lib.rt:325:25
 elements-enum-known-next-2 : (t : ℕ) → elements-lts.Need-enum-known-next-2 (elements-claims t) (elements-at t) elements.Post elements-Inv-loop elements-μ-loop
 elements-enum-known-next-2 t c = c .match .keys3
 
--- src/lib.rt:326:21
 elements-turn-of-requires : (t : ℕ) → elements-lts.Need-turn-of-requires (elements-claims t) (elements-at t) elements.Post elements-Inv-loop elements-μ-loop
 elements-turn-of-requires t c κs = search needs
 
--- src/lib.rt:327:23
 elements-value-requires : (t : ℕ) → elements-lts.Need-value-requires (elements-claims t) (elements-at t) elements.Post elements-Inv-loop elements-μ-loop
 elements-value-requires t c κs = (rises _ (c .before .before .before .before .before .before .before .before .before .before .before .before .before .before .pre .0), turning-can-read (c .before .before .before .before .before .before .loop .inv) (c .before .before .before .before .before .next-at .ensures) (c .before .before .before .next2 .given .1) (c .before .turn-of .ensures))
 
--- src/lib.rt:328:32
 elements-enum-known-r-2 : (t : ℕ) → elements-lts.Need-enum-known-r-2 (elements-claims t) (elements-at t) elements.Post elements-Inv-loop elements-μ-loop
 elements-enum-known-r-2 t c = c .match2 .keys1
 
--- src/lib.rt:328:38
 elements-same-length-3 : (t : ℕ) → elements-lts.Need-same-length-3 (elements-claims t) (elements-at t) elements.Post elements-Inv-loop elements-μ-loop
 elements-same-length-3 t c = c .before .before .before .before .before .value .kept .1 .0 ∙ c .before .before .before .before .before .before .before .before .before .before .before .before .loop .inv .good .long ∙ sym (c .before .before .before .before .before .before .before .before .before .before .before .before .before .before .before .before .before .before .before .before .pre .1 .good .long)
 
--- src/lib.rt:328:38
 elements-returns-3 : (t : ℕ) → elements-lts.Need-returns-3 (elements-claims t) (elements-at t) elements.Post elements-Inv-loop elements-μ-loop
 elements-returns-3 t c = held-stopped _ (c .before .before .before .before .before .before .before .before .before .before .before .before .before .before .before .before .before .before .before .before .pre .1) (c .before .before .before .before .before .before .before .before .before .before .before .before .before .before .before .open-id .ensures) (c .before .before .before .before .before .before .before .before .before .before .before .before .loop .inv) (c .before .before .before .before .before .before .before .before .before .before .before .next-at .ensures) (c .before .before .before .before .before .before .before .before .before .next2 .given .1) (c .before .before .before .before .before .before .before .turn-of .ensures) (c .before .before .before .before .before .value .ensures) (c .before .r2 .given .1)
 
--- src/lib.rt:329:30
 elements-enum-known-there : (t : ℕ) → elements-lts.Need-enum-known-there (elements-claims t) (elements-at t) elements.Post elements-Inv-loop elements-μ-loop
 elements-enum-known-there t c = c .match2 .keys2
 
--- src/lib.rt:332:25
 elements-low-after-requires : (t : ℕ) → elements-lts.Need-low-after-requires (elements-claims t) (elements-at t) elements.Post elements-Inv-loop elements-μ-loop
 elements-low-after-requires t c κs = low-fits (c .before .before .before .before .before .before .before .before .before .before .before .before .loop .inv) (c .before .before .before .before .before .before .before .before .before .before .before .next-at .ensures) (c .before .before .before .before .before .before .before .before .before .next2 .given .1)
 
--- src/lib.rt:318:5
 elements-loop-less : (t : ℕ) → elements-lts.Need-loop-less (elements-claims t) (elements-at t) elements.Post elements-Inv-loop elements-μ-loop
 elements-loop-less t c = turning-less (c .before .before .before .before .before .before .before .before .before .before .before .before .before .loop .inv) (c .before .before .before .before .before .before .before .before .before .before .before .before .next-at .ensures) (c .before .before .before .before .before .before .before .before .before .before .next2 .given .1) (c .low-after .ensures)
 
--- src/lib.rt:318:5
 elements-loop-again : (t : ℕ) → elements-lts.Need-loop-again (elements-claims t) (elements-at t) elements.Post elements-Inv-loop elements-μ-loop
 elements-loop-again t c = turning-again (c .before .before .before .before .before .before .before .before .before .before .before .before .before .loop .inv) (c .before .before .before .before .before .before .before .before .before .before .before .before .next-at .ensures) (c .before .before .before .before .before .before .before .before .before .before .next2 .given .1) (c .before .before .before .before .before .before .before .before .turn-of .ensures) (c .before .before .before .before .before .before .value .ensures) (c .before .before .there .given .1) (c .low-after .ensures)
 
--- src/lib.rt:292:27
 value-too-deep-requires : (t : ℕ) → value-lts.Need-too-deep-requires (value-claims t) (value-at t) value.Post
 value-too-deep-requires t c κs = c .before .before .before .pre .1 .within
 
--- src/lib.rt:292:9
 value-returns : (t : ℕ) → value-lts.Need-returns (value-claims t) (value-at t) value.Post
 value-returns t c = value-deep _ _ _ _ _ _ (c .before .if1 .taken) (c .too-deep .ensures)
 
--- src/lib.rt:294:11
 value-plan-at-requires : (t : ℕ) → value-lts.Need-plan-at-requires (value-claims t) (value-at t) value.Post
 value-plan-at-requires t c κs = (c .before .before .before .before .pre .1 .within, c .before .before .before .before .pre .1 .good)
 
--- src/lib.rt:295:22
 value-enum-known-r : (t : ℕ) → value-lts.Need-enum-known-r (value-claims t) (value-at t) value.Post
 value-enum-known-r t c = c .match .keys1
 
--- src/lib.rt:296:22
 value-enum-known-next : (t : ℕ) → value-lts.Need-enum-known-next (value-claims t) (value-at t) value.Post
 value-enum-known-next t c = c .match .keys2
 
--- src/lib.rt:296:53
 value-add-t17 : (t : ℕ) → value-lts.Need-add-t17 (value-claims t) (value-at t) value.Post
 value-add-t17 t c = record { fits = rows-fit (c .before .before .before .before .before .before .before .before .pre .1) }
 
--- src/lib.rt:296:53
 value-add-t18 : (t : ℕ) → value-lts.Need-add-t18 (value-claims t) (value-at t) value.Post
 value-add-t18 t c = record { fits = parts-fit (c .before .before .before .before .before .before .before .before .pre .1) (c .before .before .before .plan-at .ensures) (c .before .next .given .1) }
 
--- src/lib.rt:297:21
 value-enum-known-contents : (t : ℕ) → value-lts.Need-enum-known-contents (value-claims t) (value-at t) value.Post
 value-enum-known-contents t c = c .match .keys3
 
--- src/lib.rt:297:63
 value-add-elements : (t : ℕ) → value-lts.Need-add-elements (value-claims t) (value-at t) value.Post
 value-add-elements t c = record { fits = rows-fit (c .before .before .before .before .before .before .before .before .before .pre .1) }
 
--- src/lib.rt:297:73
 value-sub-elements : (t : ℕ) → value-lts.Need-sub-elements (value-claims t) (value-at t) value.Post
 value-sub-elements t c = some-level (c .before .before .before .before .before .before .if1 .left)
 
--- src/lib.rt:297:34
 value-elements-requires : (t : ℕ) → value-lts.Need-elements-requires (value-claims t) (value-at t) value.Post
 value-elements-requires t c κs = (sinks _ (c .before .before .before .before .before .before .before .before .before .pre .0) (c .before .before .before .before .before .before .if1 .left), value-can-hold _ _ _ _ _ _ (c .before .before .before .before .plan-at .ensures) (some-level (c .before .before .before .before .before .before .if1 .left)) (c .before .before .contents .given .1) (c .before .before .before .before .before .before .before .before .before .pre .1))
 
--- src/lib.rt:287:1
 value-same-length : (t : ℕ) → value-lts.Need-same-length (value-claims t) (value-at t) value.Post
 value-same-length t c = refl
 
--- src/lib.rt:287:1
 value-returns-2 : (t : ℕ) → value-lts.Need-returns-2 (value-claims t) (value-at t) value.Post
 value-returns-2 t c = value-refused _ _ _ _ _ _ (c .before .before .before .plan-at .ensures) (some-level (c .before .before .before .before .before .if1 .left)) (c .before .r .given .1)
 
--- src/lib.rt:287:1
 value-same-length-2 : (t : ℕ) → value-lts.Need-same-length-2 (value-claims t) (value-at t) value.Post
 value-same-length-2 t c = refl
 
--- src/lib.rt:287:1
 value-returns-3 : (t : ℕ) → value-lts.Need-returns-3 (value-claims t) (value-at t) value.Post
 value-returns-3 t c = value-single _ _ _ _ _ _ (c .before .before .before .plan-at .ensures) (some-level (c .before .before .before .before .before .if1 .left)) (c .before .next .given .1) (c .before .before .before .before .before .before .before .before .pre .1)
 
--- src/lib.rt:287:1
 value-same-length-3 : (t : ℕ) → value-lts.Need-same-length-3 (value-claims t) (value-at t) value.Post
 value-same-length-3 t c = c .before .before .elements .kept .1 .0
 
--- src/lib.rt:287:1
 value-returns-4 : (t : ℕ) → value-lts.Need-returns-4 (value-claims t) (value-at t) value.Post
 value-returns-4 t c = value-nested _ _ _ _ _ _ (c .before .before .before .before .before .before .before .plan-at .ensures) (some-level (c .before .before .before .before .before .before .before .before .before .if1 .left)) (c .before .before .before .before .before .contents .given .1) (c .before .before .before .before .before .before .before .before .before .before .before .before .pre .1) (c .before .before .elements .ensures)
 

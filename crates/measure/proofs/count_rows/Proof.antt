@@ -6,27 +6,21 @@ use Rattle.measure.proofs.count_rows.Reads as reads
 use Rattle.measure.proofs.count_rows.Lts as lts
 use Rattle.measure.proofs.outermost.Reads as outermost-reads
 
--- src/lib.rt:534:11
 outermost-requires : tie.Need-outermost-requires
 outermost-requires c κs = search needs
 
--- src/lib.rt:535:20
 enum-known-r : tie.Need-enum-known-r
 enum-known-r c = search needs
 
--- src/lib.rt:536:18
 enum-known-next : tie.Need-enum-known-next
 enum-known-next c = search needs
 
--- src/lib.rt:538:17
 returns : tie.Need-returns
 returns c = counted-left _ (c .before .before .before .before .outermost .ensures) (c .before .before .next .given .1) (c .if1 .taken)
 
--- src/lib.rt:531:1
 returns-2 : tie.Need-returns-2
 returns-2 c = counted-refused _ (c .before .before .before .outermost .ensures) (c .before .r .given .1)
 
--- src/lib.rt:531:1
 returns-3 : tie.Need-returns-3
 returns-3 c = counted _ (c .before .before .before .before .outermost .ensures) (c .before .before .next .given .1) (c .if1 .left)
 

@@ -8,19 +8,15 @@ use Rattle.measure.proofs.first_value.Lts as lts
 use Rattle.decide.proofs.alike.Reads as alike-reads
 use Rattle.measure.proofs.elements.Reads as elements-reads
 
--- src/lib.rt:356:15
 alike-requires : tie.Need-alike-requires
 alike-requires c κs = search needs
 
--- src/lib.rt:360:19
 slice-aggregate-elements : tie.Need-slice-aggregate-elements
 slice-aggregate-elements c = search needs
 
--- src/lib.rt:360:5
 elements-requires : tie.Need-elements-requires
 elements-requires c κs = first-can-hold (c .before .alike .ensures) (c .before .before .before .pre .0) (c .before .before .before .pre .1) (record { long = refl; no-given = refl; no-ended = refl })
 
--- src/lib.rt:349:1
 returns : tie.Need-returns
 returns c = first-held (c .before .before .before .alike .ensures) (record { long = refl; no-given = refl; no-ended = refl }) (c .before .elements .ensures)
 

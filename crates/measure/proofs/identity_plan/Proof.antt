@@ -9,51 +9,39 @@ use Rattle.decide.proofs.alike.Reads as alike-reads
 use Rattle.decide.proofs.amount_at.Reads as amount-at-reads
 use Rattle.measure.proofs.known.Reads as known-reads
 
--- src/lib.rt:140:9
 returns : tie.Need-returns
 returns c = identity-twice _ _ _ _ (c .if1 .taken)
 
--- src/lib.rt:145:11
 amount-at-requires : tie.Need-amount-at-requires
 amount-at-requires c κs = search needs
 
--- src/lib.rt:146:26
 enum-known-r : tie.Need-enum-known-r
 enum-known-r c = search needs
 
--- src/lib.rt:147:24
 enum-known-next : tie.Need-enum-known-next
 enum-known-next c = search needs
 
--- src/lib.rt:148:21
 shared-slice-read-k : tie.Need-shared-slice-read-k
 shared-slice-read-k c = search needs
 
--- src/lib.rt:148:21
 cast-k : tie.Need-cast-k
 cast-k c = search needs
 
--- src/lib.rt:149:16
 known-requires : tie.Need-known-requires
 known-requires c κs = search needs
 
--- src/lib.rt:150:17
 returns-2 : tie.Need-returns-2
 returns-2 c = identity-known _ _ _ _ (c .before .before .before .before .before .before .before .if1 .left) (c .before .before .before .before .before .before .amount-at .ensures) (c .before .before .before .before .next .given .1) (sym (c .before .known .ensures) ∙ c .if2 .taken)
 
--- src/lib.rt:156:17
 returns-3 : tie.Need-returns-3
 returns-3 c = identity-full _ _ _ _ (c .before .before .before .before .before .before .before .before .if1 .left) (c .before .before .before .before .before .before .before .amount-at .ensures) (c .before .before .before .before .before .next .given .1) (sym (c .before .before .known .ensures) ∙ c .before .if2 .left) (c .if3 .taken)
 
--- src/lib.rt:163:23
 alike-requires : tie.Need-alike-requires
 alike-requires c κs = search needs
 
--- src/lib.rt:135:1
 returns-4 : tie.Need-returns-4
 returns-4 c = identity-none _ _ _ _ (c .before .before .before .before .if1 .left) (c .before .before .before .amount-at .ensures) (c .before .r .given .1)
 
--- src/lib.rt:135:1
 returns-5 : tie.Need-returns-5
 returns-5 c = identity-new _ _ _ _ (c .before .before .before .before .before .before .before .before .before .if1 .left) (c .before .before .before .before .before .before .before .before .amount-at .ensures) (c .before .before .before .before .before .before .next .given .1) (sym (c .before .before .before .known .ensures) ∙ c .before .before .if2 .left) (c .before .if3 .left) (c .alike .ensures)
 

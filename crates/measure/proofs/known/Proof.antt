@@ -14,35 +14,27 @@ Inv-loop ids base n x found₀ i₀ found i = (i ≤ n) × (found ≡ has x (lis
 abbrev μ-loop : tie.MeasureT-loop
 μ-loop ids base n x found₀ i₀ found i = n - i
 
--- src/lib.rt:76:5
 loop-holds : tie.Need-loop-holds Inv-loop μ-loop
 loop-holds c = (omega arith, has-none _ _ _)
 
--- src/lib.rt:77:16
 add-if1 : tie.Need-add-if1 Inv-loop μ-loop
 add-if1 c = omega arith
 
--- src/lib.rt:77:12
 mul-if1 : tie.Need-mul-if1 Inv-loop μ-loop
 mul-if1 c = omega arith
 
--- src/lib.rt:77:12
 shared-slice-read-if1 : tie.Need-shared-slice-read-if1 Inv-loop μ-loop
 shared-slice-read-if1 c = omega arith
 
--- src/lib.rt:80:9
 add-i : tie.Need-add-i Inv-loop μ-loop
 add-i c = omega arith
 
--- src/lib.rt:76:5
 loop-less : tie.Need-loop-less Inv-loop μ-loop
 loop-less c = omega arith
 
--- src/lib.rt:76:5
 loop-again : tie.Need-loop-again Inv-loop μ-loop
 loop-again c = (omega arith, ⊎-elim (λ w. w .1 ∙ has-here _ _ _ _ (w .0 .taken)) (λ w. w .1 ∙ has-there _ _ _ _ (w .0 .left) (c .before .before .before .loop .inv .1)) (c .if1 .came))
 
--- src/lib.rt:70:1
 returns : tie.Need-returns Inv-loop μ-loop
 returns c = let s = c .before .before .args in let e : c .before .loop .i ≡ s .n = omega arith in c .before .loop .inv .1 ∙ ap (λ (k : ℕ). has (s .x) (listed (s .ids .now) (s .base) k)) e
 

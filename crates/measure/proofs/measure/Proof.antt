@@ -6,23 +6,18 @@ use Rattle.measure.proofs.measure.Reads as reads
 use Rattle.measure.proofs.measure.Lts as lts
 use Rattle.measure.proofs.outermost.Reads as outermost-reads
 
--- src/lib.rt:524:11
 outermost-requires : tie.Need-outermost-requires
 outermost-requires c κs = search needs
 
--- src/lib.rt:525:20
 enum-known-r : tie.Need-enum-known-r
 enum-known-r c = search needs
 
--- src/lib.rt:526:18
 enum-known-next : tie.Need-enum-known-next
 enum-known-next c = search needs
 
--- src/lib.rt:521:1
 returns : tie.Need-returns
 returns c = measured _ (c .before .before .before .outermost .ensures) (c .before .r .given .1)
 
--- src/lib.rt:521:1
 returns-2 : tie.Need-returns-2
 returns-2 c = measured _ (c .before .before .before .outermost .ensures) (c .before .next .given .1)
 

@@ -3,43 +3,33 @@ use borrow.Author.Needs.{needs}
 use Rattle.measure.proofs.open_id.Statement.{statement}
 use Rattle.measure.proofs.open_id.Tie as tie
 
--- src/lib.rt:91:17
 slice-read-k : tie.Need-slice-read-k
 slice-read-k c = search needs
 
--- src/lib.rt:91:17
 cast-k : tie.Need-cast-k
 cast-k c = search needs
 
--- src/lib.rt:92:9
 mul-ids : tie.Need-mul-ids
 mul-ids c = search needs
 
--- src/lib.rt:92:9
 slice-write-ids : tie.Need-slice-write-ids
 slice-write-ids c = search needs
 
--- src/lib.rt:93:21
 add-ids : tie.Need-add-ids
 add-ids c = search needs
 
--- src/lib.rt:93:20
 cast-ids : tie.Need-cast-ids
 cast-ids c = search needs
 
--- src/lib.rt:93:9
 slice-write-ids-2 : tie.Need-slice-write-ids-2
 slice-write-ids-2 c = search needs
 
--- src/lib.rt:86:1
 same-length : tie.Need-same-length
 same-length c = search needs
 
--- src/lib.rt:86:1
 returns : tie.Need-returns
 returns c = opened-on (c .before .before .pre .0) (room-on _ _ (c .before .before .pre .1) (c .before .if1 .taken)) (c .before .if1 .taken)
 
--- src/lib.rt:86:1
 returns-2 : tie.Need-returns-2
 returns-2 c = opened-off (c .before .pre .0) (c .if1 .left)
 

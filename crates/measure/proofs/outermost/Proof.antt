@@ -6,15 +6,12 @@ use Rattle.measure.proofs.outermost.Reads as reads
 use Rattle.measure.proofs.outermost.Lts as lts
 use Rattle.measure.proofs.first_value.Reads as first-value-reads
 
--- src/lib.rt:512:9
 returns : tie.Need-returns
 returns c = outermost-long (c .if1 .taken)
 
--- src/lib.rt:517:5
 first-value-requires : tie.Need-first-value-requires
 first-value-requires c κs = search needs
 
--- src/lib.rt:508:1
 returns-2 : tie.Need-returns-2
 returns-2 c = outermost-short (c .before .if1 .left) (c .first-value .ensures)
 

@@ -11,35 +11,27 @@ use Rattle.decide.proofs.typed_at.Reads as typed-at-reads
 use Rattle.measure.proofs.data_plan.Reads as data-plan-reads
 use Rattle.measure.proofs.once_of.Reads as once-of-reads
 
--- src/lib.rt:229:11
 typed-at-requires : tie.Need-typed-at-requires
 typed-at-requires c κs = search needs
 
--- src/lib.rt:230:24
 enum-known-r : tie.Need-enum-known-r
 enum-known-r c = search needs
 
--- src/lib.rt:231:25
 enum-known-from : tie.Need-enum-known-from
 enum-known-from c = search needs
 
--- src/lib.rt:232:17
 class-of-requires : tie.Need-class-of-requires
 class-of-requires c κs = search needs
 
--- src/lib.rt:233:40
 once-of-requires : tie.Need-once-of-requires
 once-of-requires c κs = search needs
 
--- src/lib.rt:233:13
 data-plan-requires : tie.Need-data-plan-requires
 data-plan-requires c κs = (subst (pastTyped _ _) (c .before .before .before .from .given .1) (c .before .before .before .before .before .typed-at .ensures .past) .1, c .before .before .before .before .before .before .before .before .pre .1)
 
--- src/lib.rt:225:1
 returns : tie.Need-returns
 returns c = value-odd (c .before .before .before .typed-at .ensures) (c .before .r .given .1)
 
--- src/lib.rt:225:1
 returns-2 : tie.Need-returns-2
 returns-2 c = value-typed (c .before .before .before .before .before .before .before .before .before .pre .0) (c .before .before .before .before .before .before .typed-at .ensures) (c .before .before .before .before .from .given .1) (c .before .before .before .known-told2 .given .1 .0 .1) (c .before .before .class-of .ensures) (c .before .once-of .ensures) (c .data-plan .ensures)
 

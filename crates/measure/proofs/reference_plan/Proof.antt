@@ -4,39 +4,30 @@ use borrow.Author.Needs.{needs}
 use Rattle.measure.proofs.reference_plan.Statement.{statement}
 use Rattle.measure.proofs.reference_plan.Tie as tie
 
--- src/lib.rt:292:11
 amount-at-requires : tie.Need-amount-at-requires
 amount-at-requires c κs = search needs
 
--- src/lib.rt:293:26
 enum-known-r : tie.Need-enum-known-r
 enum-known-r c = search needs
 
--- src/lib.rt:294:24
 enum-known-next : tie.Need-enum-known-next
 enum-known-next c = search needs
 
--- src/lib.rt:295:21
 shared-slice-read-k : tie.Need-shared-slice-read-k
 shared-slice-read-k c = search needs
 
--- src/lib.rt:295:21
 cast-k : tie.Need-cast-k
 cast-k c = search needs
 
--- src/lib.rt:296:16
 known-requires : tie.Need-known-requires
 known-requires c κs = search needs
 
--- src/lib.rt:297:17
 returns : tie.Need-returns
 returns c = record { plan = λ once p. reference-aimed _ _ _ _ once (c .before .before .before .before .before .before .amount-at .ensures) (c .before .before .before .before .next .given .1) (sym (c .before .known .ensures) ∙ c .if1 .taken) }
 
--- src/lib.rt:288:1
 returns-2 : tie.Need-returns-2
 returns-2 c = record { plan = λ once p. reference-none _ _ _ _ once (c .before .before .before .amount-at .ensures) (c .before .r .given .1) }
 
--- src/lib.rt:288:1
 returns-3 : tie.Need-returns-3
 returns-3 c = record { plan = λ once p. reference-lost _ _ _ _ once (c .before .before .before .before .before .before .amount-at .ensures) (c .before .before .before .before .next .given .1) (sym (c .before .known .ensures) ∙ c .if1 .left) }
 

@@ -5,35 +5,27 @@ use borrow.Author.Needs.{needs}
 use Rattle.measure.proofs.text_plan.Statement.{statement}
 use Rattle.measure.proofs.text_plan.Tie as tie
 
--- src/lib.rt:162:11
 amount-at-requires : tie.Need-amount-at-requires
 amount-at-requires c κs = search needs
 
--- src/lib.rt:163:26
 enum-known-r : tie.Need-enum-known-r
 enum-known-r c = search needs
 
--- src/lib.rt:164:24
 enum-known-next : tie.Need-enum-known-next
 enum-known-next c = search needs
 
--- src/lib.rt:164:72
 cast-text-past : tie.Need-cast-text-past
 cast-text-past c = search needs
 
--- src/lib.rt:164:43
 text-past-requires : tie.Need-text-past-requires
 text-past-requires c κs = subst (pastAmount _ _) (c .before .next .given .1) (c .before .before .before .amount-at .ensures .past) .1
 
--- src/lib.rt:164:36
 passed-requires : tie.Need-passed-requires
 passed-requires c κs = search needs
 
--- src/lib.rt:158:1
 returns : tie.Need-returns
 returns c = record { plan = λ l once p. text-none (c .before .before .before .amount-at .ensures) (c .before .r .given .1) }
 
--- src/lib.rt:158:1
 returns-2 : tie.Need-returns-2
 returns-2 c = record { plan = λ l once p. text-some (c .before .before .before .before .before .amount-at .ensures) (c .before .before .before .next .given .1) (c .before .text-past .ensures) (c .passed .ensures) }
 

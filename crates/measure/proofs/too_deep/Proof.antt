@@ -9,35 +9,27 @@ use Rattle.decide.proofs.typed_at.Reads as typed-at-reads
 use Rattle.measure.proofs.deep_number.Reads as deep-number-reads
 use Rattle.measure.proofs.once_of.Reads as once-of-reads
 
--- src/lib.rt:277:11
 typed-at-requires : tie.Need-typed-at-requires
 typed-at-requires c κs = search needs
 
--- src/lib.rt:278:24
 enum-known-r : tie.Need-enum-known-r
 enum-known-r c = search needs
 
--- src/lib.rt:279:31
 enum-known-t : tie.Need-enum-known-t
 enum-known-t c = search needs
 
--- src/lib.rt:281:33
 class-of-requires : tie.Need-class-of-requires
 class-of-requires c κs = search needs
 
--- src/lib.rt:281:54
 once-of-requires : tie.Need-once-of-requires
 once-of-requires c κs = search needs
 
--- src/lib.rt:281:21
 deep-number-requires : tie.Need-deep-number-requires
 deep-number-requires c κs = search needs
 
--- src/lib.rt:273:1
 returns : tie.Need-returns
 returns c = deep-untyped (c .before .before .before .typed-at .ensures) (c .before .r .given .1)
 
--- src/lib.rt:273:1
 returns-2 : tie.Need-returns-2
 returns-2 c = deep-typed (c .before .before .before .before .before .before .typed-at .ensures) (c .before .before .before .before .before .before .before .before .pre) (c .before .before .before .before .t .given .1) (c .before .before .before .known-told2 .given .1 .0 .1) (c .before .before .class-of .ensures) (c .before .once-of .ensures) (c .deep-number .ensures)
 

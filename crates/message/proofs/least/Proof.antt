@@ -4,11 +4,9 @@ use Rattle.message.proofs.least.Tie as tie
 use Rattle.message.proofs.least.Reads as reads
 use Rattle.message.proofs.least.Lts as lts
 
--- src/lib.rt:13:9
 returns : tie.Need-returns
 returns c = least-first _ _ (c .if1 .taken)
 
--- src/lib.rt:9:1
 returns-2 : tie.Need-returns-2
 returns-2 c = least-second _ _ (c .if1 .left)
 

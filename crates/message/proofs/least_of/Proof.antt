@@ -7,43 +7,33 @@ use Rattle.message.proofs.least_of.Reads as reads
 use Rattle.message.proofs.least_of.Lts as lts
 use Rattle.message.proofs.least.Reads as least-reads
 
--- src/lib.rt:33:23
 least-requires : tie.Need-least-requires
 least-requires c κs = search needs
 
--- src/lib.rt:33:9
 least-requires-2 : tie.Need-least-requires-2
 least-requires-2 c κs = search needs
 
--- src/lib.rt:34:27
 least-requires-3 : tie.Need-least-requires-3
 least-requires-3 c κs = search needs
 
--- src/lib.rt:34:9
 least-requires-4 : tie.Need-least-requires-4
 least-requires-4 c κs = search needs
 
--- src/lib.rt:35:19
 least-requires-5 : tie.Need-least-requires-5
 least-requires-5 c κs = search needs
 
--- src/lib.rt:35:40
 least-requires-6 : tie.Need-least-requires-6
 least-requires-6 c κs = search needs
 
--- src/lib.rt:35:9
 least-requires-7 : tie.Need-least-requires-7
 least-requires-7 c κs = search needs
 
--- src/lib.rt:36:14
 least-requires-8 : tie.Need-least-requires-8
 least-requires-8 c κs = search needs
 
--- src/lib.rt:36:5
 least-requires-9 : tie.Need-least-requires-9
 least-requires-9 c κs = search needs
 
--- src/lib.rt:19:1
 returns : tie.Need-returns
 returns c = least-by (c .least9 .ensures) (least-by (c .before .before .before .before .before .before .before .least2 .ensures) refl (c .before .before .before .before .before .before .before .before .least .ensures)) (least-by (c .before .least8 .ensures) (least-by (c .before .before .before .before .before .least4 .ensures) refl (c .before .before .before .before .before .before .least3 .ensures)) (least-by (c .before .before .least7 .ensures) (c .before .before .before .before .least5 .ensures) (c .before .before .before .least6 .ensures)))
 

@@ -5,83 +5,63 @@ use Rattle.records.proofs.row_at.Tie as tie
 use Rattle.records.proofs.row_at.Reads as reads
 use Rattle.records.proofs.row_at.Lts as lts
 
--- src/lib.rt:24:13
 mul-t12 : tie.Need-mul-t12
 mul-t12 c = search needs
 
--- src/lib.rt:24:13
 shared-slice-copy-out-t14 : tie.Need-shared-slice-copy-out-t14
 shared-slice-copy-out-t14 c = search needs
 
--- src/lib.rt:25:14
 shared-slice-read-t16 : tie.Need-shared-slice-read-t16
 shared-slice-read-t16 c = search needs
 
--- src/lib.rt:26:16
 mul-t17 : tie.Need-mul-t17
 mul-t17 c = search needs
 
--- src/lib.rt:26:16
 shared-slice-read-t19 : tie.Need-shared-slice-read-t19
 shared-slice-read-t19 c = search needs
 
--- src/lib.rt:27:17
 mul-t20 : tie.Need-mul-t20
 mul-t20 c = search needs
 
--- src/lib.rt:27:17
 shared-slice-copy-out-t22 : tie.Need-shared-slice-copy-out-t22
 shared-slice-copy-out-t22 c = search needs
 
--- src/lib.rt:28:16
 mul-t23 : tie.Need-mul-t23
 mul-t23 c = search needs
 
--- src/lib.rt:28:16
 shared-slice-copy-out-t25 : tie.Need-shared-slice-copy-out-t25
 shared-slice-copy-out-t25 c = search needs
 
--- src/lib.rt:29:17
 mul-t26 : tie.Need-mul-t26
 mul-t26 c = search needs
 
--- src/lib.rt:29:17
 shared-slice-copy-out-t28 : tie.Need-shared-slice-copy-out-t28
 shared-slice-copy-out-t28 c = search needs
 
--- src/lib.rt:30:16
 mul-t29 : tie.Need-mul-t29
 mul-t29 c = search needs
 
--- src/lib.rt:30:16
 shared-slice-read-t31 : tie.Need-shared-slice-read-t31
 shared-slice-read-t31 c = search needs
 
--- src/lib.rt:31:16
 mul-t32 : tie.Need-mul-t32
 mul-t32 c = search needs
 
--- src/lib.rt:31:16
 shared-slice-read-t34 : tie.Need-shared-slice-read-t34
 shared-slice-read-t34 c = search needs
 
--- src/lib.rt:32:16
 mul-t35 : tie.Need-mul-t35
 mul-t35 c = search needs
 
--- src/lib.rt:32:16
 shared-slice-read-t37 : tie.Need-shared-slice-read-t37
 shared-slice-read-t37 c = search needs
 
--- src/lib.rt:33:14
 mul-t38 : tie.Need-mul-t38
 mul-t38 c = search needs
 
--- src/lib.rt:33:14
 shared-slice-read-t40 : tie.Need-shared-slice-read-t40
 shared-slice-read-t40 c = search needs
 
--- src/lib.rt:7:1
 returns : tie.Need-returns
 returns c = row-of (search needs) (record { ty = c .before .before .before .before .before .before .before .before .before .t14 .given; own = c .before .before .before .before .before .before .before .before .shared-slice-known .given _ .fits; label = c .before .before .before .before .before .before .before .shared-slice-known2 .given _ .fits; number = c .before .before .before .before .before .before .t22 .given; first = c .before .before .before .before .before .t25 .given; second = c .before .before .before .before .t28 .given; place = c .before .before .before .shared-slice-known3 .given _ .fits; below = c .before .before .shared-slice-known4 .given _ .fits; start = c .before .shared-slice-known5 .given _ .fits; end = c .shared-slice-known6 .given _ .fits })
 

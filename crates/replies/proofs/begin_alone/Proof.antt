@@ -8,39 +8,30 @@ use Rattle.replies.proofs.begin_desk.Reads as begin-desk-reads
 use Rattle.replies.proofs.begin_measure.Reads as begin-measure-reads
 use Rattle.replies.proofs.put_bad.Reads as put-bad-reads
 
--- src/lib.rt:364:9
 begin-measure-requires : tie.Need-begin-measure-requires
 begin-measure-requires c κs = c .before .before .before .before .pre
 
--- src/lib.rt:364:9
 same-length : tie.Need-same-length
 same-length c = search needs
 
--- src/lib.rt:364:9
 returns : tie.Need-returns
 returns c = rw (alone-measure (c .before .before .before .before .before .before .before .args .kind) (c .before .before .before .before .before .before .before .args .src .now) (c .before .before .before .before .if1 .taken)) (c .before .before .begin-measure .ensures)
 
--- src/lib.rt:367:9
 begin-desk-requires : tie.Need-begin-desk-requires
 begin-desk-requires c κs = c .before .before .before .before .before .pre
 
--- src/lib.rt:367:9
 same-length-2 : tie.Need-same-length-2
 same-length-2 c = search needs
 
--- src/lib.rt:367:9
 returns-2 : tie.Need-returns-2
 returns-2 c = rw (alone-desk (c .before .before .before .before .before .before .before .before .args .kind) (c .before .before .before .before .before .before .before .before .args .src .now) (c .before .before .before .before .before .if1 .left) (c .before .before .before .before .if2 .taken)) (c .before .before .begin-desk .ensures)
 
--- src/lib.rt:369:5
 put-bad-requires : tie.Need-put-bad-requires
 put-bad-requires c κs = c .before .before .before .before .before .pre
 
--- src/lib.rt:359:1
 same-length-3 : tie.Need-same-length-3
 same-length-3 c = search needs
 
--- src/lib.rt:359:1
 returns-3 : tie.Need-returns-3
 returns-3 c = rw (alone-bad (c .before .before .before .before .before .before .before .before .args .kind) (c .before .before .before .before .before .before .before .before .args .src .now) (c .before .before .before .before .before .if1 .left) (c .before .before .before .before .if2 .left)) (c .before .before .put-bad .ensures)
 

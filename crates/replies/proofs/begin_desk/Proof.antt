@@ -9,19 +9,15 @@ use Rattle.replies.proofs.begin_desk.Lts as lts
 use Rattle.replies.proofs.put_desk.Reads as put-desk-reads
 use Rattle.replies.proofs.put_slashes.Reads as put-slashes-reads
 
--- src/lib.rt:353:9
 put-desk-requires : tie.Need-put-desk-requires
 put-desk-requires c κs = search needs
 
--- src/lib.rt:354:5
 put-slashes-requires : tie.Need-put-slashes-requires
 put-slashes-requires c κs = search needs
 
--- src/lib.rt:349:1
 same-length : tie.Need-same-length
 same-length c = search needs
 
--- src/lib.rt:349:1
 returns : tie.Need-returns
 returns c = record { wrote = c .before .before .put-slashes .ensures .put _ _ (c .before .before .before .before .before .before .put-desk .ensures .wrote); short = omega (arith, length-map (deskText (c .before .before .before .before .before .before .before .before .before .before .args .src .now)) slash, c .before .before .before .before .before .before .put-desk .ensures .short) }
 

@@ -8,39 +8,30 @@ use Rattle.replies.proofs.put_no.Reads as put-no-reads
 use Rattle.replies.proofs.put_ok.Reads as put-ok-reads
 use Rattle.measure.proofs.measure.Reads as measure-reads
 
--- src/lib.rt:205:11
 measure-requires : tie.Need-measure-requires
 measure-requires c κs = search needs
 
--- src/lib.rt:206:26
 enum-known-n : tie.Need-enum-known-n
 enum-known-n c = search needs
 
--- src/lib.rt:206:32
 put-ok-requires : tie.Need-put-ok-requires
 put-ok-requires c κs = search needs
 
--- src/lib.rt:207:27
 enum-known-r : tie.Need-enum-known-r
 enum-known-r c = search needs
 
--- src/lib.rt:207:33
 put-no-requires : tie.Need-put-no-requires
 put-no-requires c κs = search needs
 
--- src/lib.rt:201:1
 same-length : tie.Need-same-length
 same-length c = search needs
 
--- src/lib.rt:201:1
 returns : tie.Need-returns
 returns c = measured-ok _ (c .before .before .before .before .before .before .before .measure .ensures) (c .before .before .before .before .before .n .given .1) (c .before .before .put-ok .ensures)
 
--- src/lib.rt:201:1
 same-length-2 : tie.Need-same-length-2
 same-length-2 c = search needs
 
--- src/lib.rt:201:1
 returns-2 : tie.Need-returns-2
 returns-2 c = measured-no _ (c .before .before .before .before .before .before .before .measure .ensures) (c .before .before .before .before .before .r .given .1) (c .before .before .put-no .ensures)
 

@@ -6,43 +6,33 @@ use borrow.Author.Needs.{needs}
 use Rattle.replies.proofs.field_octets.Statement.{statement}
 use Rattle.replies.proofs.field_octets.Tie as tie
 
--- src/lib.rt:84:9
 returns : tie.Need-returns
 returns c = none-there _ (c .if1 .taken)
 
--- src/lib.rt:87:12
 shared-slice-read-if3 : tie.Need-shared-slice-read-if3
 shared-slice-read-if3 c = search needs
 
--- src/lib.rt:88:13
 returns-2 : tie.Need-returns-2
 returns-2 c = (dash _ (c .before .before .if2 .taken) (c .if3 .taken), omega arith)
 
--- src/lib.rt:90:9
 returns-3 : tie.Need-returns-3
 returns-3 c = lone _ (c .before .before .if2 .taken) (c .if3 .left)
 
--- src/lib.rt:93:9
 returns-4 : tie.Need-returns-4
 returns-4 c = odd (c .before .before .before .before .before .args .field .now) (omega arith) (c .if4 .taken)
 
--- src/lib.rt:95:9
 all-digits-requires : tie.Need-all-digits-requires
 all-digits-requires c κs = search needs
 
--- src/lib.rt:96:9
 returns-5 : tie.Need-returns-5
 returns-5 c = undigit (c .before .before .before .before .before .before .before .args .field .now) (omega arith) (c .before .before .if4 .left) (sym (c .before .all-digits .ensures) ∙ not-true _ (c .if5 .taken))
 
--- src/lib.rt:98:18
 put-octets-requires : tie.Need-put-octets-requires
 put-octets-requires c κs = (sym (c .before .before .all-digits .ensures) ∙ not-false _ (c .before .if5 .left), pairs-room _ (c .before .before .before .before .before .before .before .before .pre))
 
--- src/lib.rt:78:1
 same-length : tie.Need-same-length
 same-length c = search needs
 
--- src/lib.rt:78:1
 returns-6 : tie.Need-returns-6
 returns-6 c = pairs (c .before .before .before .before .before .before .before .before .before .before .before .args .field .now) (c .before .before .before .before .before .before .before .before .before .before .before .pre) (omega arith) (c .before .before .before .before .before .before .if4 .left) (sym (c .before .before .before .before .before .all-digits .ensures) ∙ not-false _ (c .before .before .before .before .if5 .left)) (c .before .before .put-octets .ensures)
 

@@ -7,35 +7,27 @@ use Rattle.replies.proofs.put_bad.Tie as tie
 use Rattle.replies.proofs.put_bad.Reads as reads
 use Rattle.replies.proofs.put_bad.Lts as lts
 
--- src/lib.rt:55:5
 slice-write-out : tie.Need-slice-write-out
 slice-write-out c = search needs
 
--- src/lib.rt:56:9
 add-out : tie.Need-add-out
 add-out c = search needs
 
--- src/lib.rt:56:5
 slice-write-out-2 : tie.Need-slice-write-out-2
 slice-write-out-2 c = simp length-set (omega arith)
 
--- src/lib.rt:57:9
 add-out-2 : tie.Need-add-out-2
 add-out-2 c = search needs
 
--- src/lib.rt:57:5
 slice-write-out-3 : tie.Need-slice-write-out-3
 slice-write-out-3 c = simp length-set (omega arith)
 
--- src/lib.rt:58:5
 add-result : tie.Need-add-result
 add-result c = search needs
 
--- src/lib.rt:51:1
 same-length : tie.Need-same-length
 same-length c = search needs
 
--- src/lib.rt:51:1
 returns : tie.Need-returns
 returns c = listed (omega arith) (bad-wrote _ _)
 

@@ -5,23 +5,18 @@ use borrow.Author.Needs.{needs}
 use Rattle.replies.proofs.put_count.Statement.{statement}
 use Rattle.replies.proofs.put_count.Tie as tie
 
--- src/lib.rt:23:5
 slice-write-out : tie.Need-slice-write-out
 slice-write-out c = search needs
 
--- src/lib.rt:24:27
 add-put-digits : tie.Need-add-put-digits
 add-put-digits c = search needs
 
--- src/lib.rt:24:5
 put-digits-requires : tie.Need-put-digits-requires
 put-digits-requires c κs = left-one (left-all (c .before .before .pre)) refl .room
 
--- src/lib.rt:19:1
 same-length : tie.Need-same-length
 same-length c = c .before .before .put-digits .kept .0 ∙ simp length-set
 
--- src/lib.rt:19:1
 returns : tie.Need-returns
 returns c = left-one (left-all (c .before .before .before .before .before .pre)) refl .rest (c .before .before .put-digits .ensures)
 

@@ -10,55 +10,42 @@ use Rattle.replies.proofs.put_desk.Lts as lts
 use Rattle.replies.proofs.put_no_line.Reads as put-no-line-reads
 use Rattle.listing.proofs.list_line.Reads as list-line-reads
 
--- src/lib.rt:319:9
 put-no-line-requires : tie.Need-put-no-line-requires
 put-no-line-requires c κs = search needs
 
--- src/lib.rt:319:9
 same-length : tie.Need-same-length
 same-length c = search needs
 
--- src/lib.rt:319:9
 returns : tie.Need-returns
 returns c = desk-none (c .before .before .before .before .before .before .before .args .src .now) (c .before .before .before .before .if1 .taken) (c .before .before .put-no-line .ensures)
 
--- src/lib.rt:321:12
 sub-if2 : tie.Need-sub-if2
 sub-if2 c = search needs
 
--- src/lib.rt:321:8
 shared-slice-read-if2 : tie.Need-shared-slice-read-if2
 shared-slice-read-if2 c = search needs
 
--- src/lib.rt:322:9
 put-no-line-requires-2 : tie.Need-put-no-line-requires-2
 put-no-line-requires-2 c κs = search needs
 
--- src/lib.rt:322:9
 same-length-2 : tie.Need-same-length-2
 same-length-2 c = search needs
 
--- src/lib.rt:322:9
 returns-2 : tie.Need-returns-2
 returns-2 c = desk-other (c .before .before .before .before .before .before .before .before .before .args .src .now) (c .before .before .before .before .if2 .taken) (c .before .before .put-no-line2 .ensures)
 
--- src/lib.rt:324:31
 sub-list-line : tie.Need-sub-list-line
 sub-list-line c = search needs
 
--- src/lib.rt:324:24
 slice-aggregate-list-line : tie.Need-slice-aggregate-list-line
 slice-aggregate-list-line c = sym (length-take-le _ _ (omega arith))
 
--- src/lib.rt:324:5
 list-line-requires : tie.Need-list-line-requires
 list-line-requires c κs = search needs
 
--- src/lib.rt:313:1
 same-length-3 : tie.Need-same-length-3
 same-length-3 c = search needs
 
--- src/lib.rt:313:1
 returns-3 : tie.Need-returns-3
 returns-3 c = desk-line (c .before .before .before .before .before .before .before .before .before .before .args .src .now) (c .before .before .before .before .before .if2 .left) (c .before .before .list-line .ensures)
 

@@ -12,47 +12,36 @@ use Rattle.replies.proofs.put_framed.Lts as lts
 use Rattle.replies.proofs.put_count.Reads as put-count-reads
 use Rattle.text.proofs.put_number.Reads as put-number-reads
 
--- src/lib.rt:76:5
 slice-write-out : tie.Need-slice-write-out
 slice-write-out c = search needs
 
--- src/lib.rt:77:9
 add-out : tie.Need-add-out
 add-out c = search needs
 
--- src/lib.rt:77:5
 slice-write-out-2 : tie.Need-slice-write-out-2
 slice-write-out-2 c = simp length-set (omega arith)
 
--- src/lib.rt:78:9
 add-out-2 : tie.Need-add-out-2
 add-out-2 c = search needs
 
--- src/lib.rt:78:5
 slice-write-out-3 : tie.Need-slice-write-out-3
 slice-write-out-3 c = simp length-set (omega arith)
 
--- src/lib.rt:79:38
 add-put-number : tie.Need-add-put-number
 add-put-number c = search needs
 
--- src/lib.rt:79:46
 cast-put-number : tie.Need-cast-put-number
 cast-put-number c = wide-fits _ (c .before .before .fits .conversation)
 
--- src/lib.rt:79:9
 put-number-requires : tie.Need-put-number-requires
 put-number-requires c κs = rw (wide _ (c .before .before .fits .conversation)) (left-fits (framed-begun (c .before .before .args .conversation) (c .before .before .args .rows) (room (c .before .before .args .at) (c .before .before .args .out .now) (framed-short _ _ (c .before .before .fits .conversation .sfits) (c .before .before .fits .rows .fits)) (c .before .before .pre))) _ _ refl)
 
--- src/lib.rt:80:5
 put-count-requires : tie.Need-put-count-requires
 put-count-requires c κs = left-fits (left-part (framed-begun (c .before .before .before .before .before .before .args .conversation) (c .before .before .before .before .before .before .args .rows) (room (c .before .before .before .before .before .before .args .at) (c .before .before .before .before .before .before .args .out .now) (framed-short _ _ (c .before .before .before .before .before .before .fits .conversation .sfits) (c .before .before .before .before .before .before .fits .rows .fits)) (c .before .before .before .before .before .before .pre))) _ refl (rw (wide _ (c .before .before .before .before .before .before .fits .conversation)) at (c .before .before .before .put-number .ensures))) _ _ refl
 
--- src/lib.rt:72:1
 same-length : tie.Need-same-length
 same-length c = left-part (left-part (framed-begun (c .before .before .before .before .before .before .before .before .before .args .conversation) (c .before .before .before .before .before .before .before .before .before .args .rows) (room (c .before .before .before .before .before .before .before .before .before .args .at) (c .before .before .before .before .before .before .before .before .before .args .out .now) (framed-short _ _ (c .before .before .before .before .before .before .before .before .before .fits .conversation .sfits) (c .before .before .before .before .before .before .before .before .before .fits .rows .fits)) (c .before .before .before .before .before .before .before .before .before .pre))) _ refl (rw (wide _ (c .before .before .before .before .before .before .before .before .before .fits .conversation)) at (c .before .before .before .before .before .before .put-number .ensures))) _ refl (c .before .before .put-count .ensures) .kept
 
--- src/lib.rt:72:1
 returns : tie.Need-returns
 returns c = listed (framed-short _ _ (c .before .before .before .before .before .before .before .before .before .fits .conversation .sfits) (c .before .before .before .before .before .before .before .before .before .fits .rows .fits)) (left-none (left-part (left-part (framed-begun (c .before .before .before .before .before .before .before .before .before .args .conversation) (c .before .before .before .before .before .before .before .before .before .args .rows) (room (c .before .before .before .before .before .before .before .before .before .args .at) (c .before .before .before .before .before .before .before .before .before .args .out .now) (framed-short _ _ (c .before .before .before .before .before .before .before .before .before .fits .conversation .sfits) (c .before .before .before .before .before .before .before .before .before .fits .rows .fits)) (c .before .before .before .before .before .before .before .before .before .pre))) _ refl (rw (wide _ (c .before .before .before .before .before .before .before .before .before .fits .conversation)) at (c .before .before .before .before .before .before .put-number .ensures))) _ refl (c .before .before .put-count .ensures)) refl)
 

@@ -9,15 +9,12 @@ use Rattle.replies.proofs.put_no_line.Reads as reads
 use Rattle.replies.proofs.put_no_line.Lts as lts
 use Rattle.text.proofs.put_refused.Reads as put-refused-reads
 
--- src/lib.rt:302:5
 put-refused-requires : tie.Need-put-refused-requires
 put-refused-requires c κs = room-28 (omega arith) (omega arith) (c .before .before .pre)
 
--- src/lib.rt:298:1
 same-length : tie.Need-same-length
 same-length c = search needs
 
--- src/lib.rt:298:1
 returns : tie.Need-returns
 returns c = record { wrote = c .before .before .put-refused .ensures; short = omega (arith, refused-length (refusal 17 0) (omega arith) (omega arith)) }
 

@@ -7,31 +7,24 @@ use borrow.Author.Needs.{needs}
 use Rattle.replies.proofs.put_ok.Statement.{statement}
 use Rattle.replies.proofs.put_ok.Tie as tie
 
--- src/lib.rt:44:5
 slice-write-out : tie.Need-slice-write-out
 slice-write-out c = search needs
 
--- src/lib.rt:45:9
 add-out : tie.Need-add-out
 add-out c = search needs
 
--- src/lib.rt:45:5
 slice-write-out-2 : tie.Need-slice-write-out-2
 slice-write-out-2 c = simp length-set (omega arith)
 
--- src/lib.rt:46:30
 add-put-count : tie.Need-add-put-count
 add-put-count c = search needs
 
--- src/lib.rt:46:9
 put-count-requires : tie.Need-put-count-requires
 put-count-requires c κs = left-fits (letters (ok-parts _) (room (c .before .before .args .at) (c .before .before .args .out .now) (ok-short _ (c .before .before .fits .n .fits)) (c .before .before .pre))) _ _ refl
 
--- src/lib.rt:40:1
 same-length : tie.Need-same-length
 same-length c = left-part (letters (ok-parts _) (room (c .before .before .before .before .before .args .at) (c .before .before .before .before .before .args .out .now) (ok-short _ (c .before .before .before .before .before .fits .n .fits)) (c .before .before .before .before .before .pre))) _ refl (c .before .before .put-count .ensures) .kept
 
--- src/lib.rt:40:1
 returns : tie.Need-returns
 returns c = listed (ok-short _ (c .before .before .before .before .before .fits .n .fits)) (left-none (left-part (letters (ok-parts _) (room (c .before .before .before .before .before .args .at) (c .before .before .before .before .before .args .out .now) (ok-short _ (c .before .before .before .before .before .fits .n .fits)) (c .before .before .before .before .before .pre))) _ refl (c .before .before .put-count .ensures)) refl)
 

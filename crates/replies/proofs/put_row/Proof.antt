@@ -10,39 +10,30 @@ use Rattle.replies.proofs.put_row.Lts as lts
 use Rattle.replies.proofs.numbers_of.Reads as numbers-of-reads
 use Rattle.replies.proofs.put_spaced.Reads as put-spaced-reads
 
--- src/lib.rt:120:5
 slice-write-out : tie.Need-slice-write-out
 slice-write-out c = search needs
 
--- src/lib.rt:121:9
 add-out : tie.Need-add-out
 add-out c = search needs
 
--- src/lib.rt:121:5
 slice-write-out-2 : tie.Need-slice-write-out-2
 slice-write-out-2 c = simp length-set (omega (arith, letters-room refl (c .before .pre)))
 
--- src/lib.rt:122:18
 numbers-of-requires : tie.Need-numbers-of-requires
 numbers-of-requires c κs = search needs
 
--- src/lib.rt:123:21
 add-put-spaced : tie.Need-add-put-spaced
 add-put-spaced c = search needs
 
--- src/lib.rt:123:29
 slice-aggregate-put-spaced : tie.Need-slice-aggregate-put-spaced
 slice-aggregate-put-spaced c = search needs
 
--- src/lib.rt:123:5
 put-spaced-requires : tie.Need-put-spaced-requires
 put-spaced-requires c κs = rw (c .before .before .numbers-of .ensures) (letters refl (c .before .before .before .before .pre) .room)
 
--- src/lib.rt:116:1
 same-length : tie.Need-same-length
 same-length c = c .before .before .put-spaced .kept .0 ∙ simp length-set
 
--- src/lib.rt:116:1
 returns : tie.Need-returns
 returns c = letters refl (c .before .before .before .before .before .before .before .pre) .rest (rw (c .before .before .before .before .before .numbers-of .ensures) at (c .before .before .put-spaced .ensures))
 

@@ -14,39 +14,30 @@ Inv-loop out₀ at end i₀ out i = Slashing at end out₀ i out
 abbrev μ-loop : tie.MeasureT-loop
 μ-loop out₀ at end i₀ out i = end - i
 
--- src/lib.rt:342:5
 loop-holds : tie.Need-loop-holds Inv-loop μ-loop
 loop-holds c = slashing-first (c .before .pre .0) (c .before .pre .1)
 
--- src/lib.rt:343:24
 slice-read-slash : tie.Need-slice-read-slash Inv-loop μ-loop
 slice-read-slash c = omega (arith, c .before .before .loop .inv .2, c .before .before .loop .inv .3, c .before .loop-test .taken)
 
--- src/lib.rt:343:18
 slash-requires : tie.Need-slash-requires Inv-loop μ-loop
 slash-requires c κs = search needs
 
--- src/lib.rt:343:9
 slice-write-out : tie.Need-slice-write-out Inv-loop μ-loop
 slice-write-out c = omega (arith, c .before .before .before .loop .inv .2, c .before .before .before .loop .inv .3, c .before .before .loop-test .taken)
 
--- src/lib.rt:344:9
 add-i : tie.Need-add-i Inv-loop μ-loop
 add-i c = omega arith
 
--- src/lib.rt:342:5
 loop-less : tie.Need-loop-less Inv-loop μ-loop
 loop-less c = omega arith
 
--- src/lib.rt:342:5
 loop-again : tie.Need-loop-again Inv-loop μ-loop
 loop-again c = rw (c .slash .ensures) (slashing-again (c .before .before .before .loop .inv) (c .before .before .loop-test .taken))
 
--- src/lib.rt:337:1
 same-length : tie.Need-same-length Inv-loop μ-loop
 same-length c = c .before .loop .inv .3
 
--- src/lib.rt:337:1
 returns : tie.Need-returns Inv-loop μ-loop
 returns c = slashing-all (c .before .loop .inv) (c .loop-test .left)
 

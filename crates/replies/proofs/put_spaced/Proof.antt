@@ -20,47 +20,36 @@ Inv-loop out₀ at values next₀ i₀ out next i = (i ≤ length values) × Lef
 abbrev μ-loop : tie.MeasureT-loop
 μ-loop out₀ at values next₀ i₀ out next i = length values - i
 
--- src/lib.rt:40:5
 loop-holds : tie.Need-loop-holds Inv-loop μ-loop
 loop-holds c = (omega arith, left-all (c .before .pre))
 
--- src/lib.rt:41:9
 slice-write-out : tie.Need-slice-write-out Inv-loop μ-loop
 slice-write-out c = left-place (c .before .loop .inv .1) (spaced-at _ _ (c .loop-test .taken))
 
--- src/lib.rt:42:38
 add-put-number : tie.Need-add-put-number Inv-loop μ-loop
 add-put-number c = omega (arith, left-place (c .before .before .loop .inv .1) (spaced-at _ _ (c .before .loop-test .taken)))
 
--- src/lib.rt:42:48
 mul-put-number : tie.Need-mul-put-number Inv-loop μ-loop
 mul-put-number c = search needs
 
--- src/lib.rt:42:48
 shared-slice-copy-out-put-number : tie.Need-shared-slice-copy-out-put-number Inv-loop μ-loop
 shared-slice-copy-out-put-number c = c .before .loop-test .taken
 
--- src/lib.rt:42:9
 put-number-requires : tie.Need-put-number-requires Inv-loop μ-loop
 put-number-requires c κs = rw (toZ-ofZ w64 _ (record { sfits = c .put-number-arg2 .given })) (left-after (c .before .before .before .loop .inv .1) _ _ _ (spaced-at _ _ (c .before .before .loop-test .taken)) (omega arith))
 
--- src/lib.rt:43:9
 add-i : tie.Need-add-i Inv-loop μ-loop
 add-i c = omega arith
 
--- src/lib.rt:40:5
 loop-less : tie.Need-loop-less Inv-loop μ-loop
 loop-less c = omega arith
 
--- src/lib.rt:40:5
 loop-again : tie.Need-loop-again Inv-loop μ-loop
 loop-again c = (omega arith, left-part (left-one (c .before .before .before .before .before .before .loop .inv .1) (spaced-at _ _ (c .before .before .before .before .before .loop-test .taken))) _ refl (rw (toZ-ofZ w64 _ (record { sfits = c .before .before .before .put-number-arg2 .given })) at (c .before .before .put-number .ensures)))
 
--- src/lib.rt:34:1
 same-length : tie.Need-same-length Inv-loop μ-loop
 same-length c = c .before .loop .inv .1 .kept
 
--- src/lib.rt:34:1
 returns : tie.Need-returns Inv-loop μ-loop
 returns c = left-none (c .before .loop .inv .1) (spaced-end _ _ (c .loop-test .left))
 

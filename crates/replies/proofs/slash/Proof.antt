@@ -4,11 +4,9 @@ use Rattle.replies.proofs.slash.Tie as tie
 use Rattle.replies.proofs.slash.Reads as reads
 use Rattle.replies.proofs.slash.Lts as lts
 
--- src/lib.rt:331:9
 returns : tie.Need-returns
 returns c = slash-feed _ (c .if1 .taken)
 
--- src/lib.rt:327:1
 returns-2 : tie.Need-returns-2
 returns-2 c = slash-other _ (c .if1 .left)
 

@@ -4,19 +4,15 @@ use borrow.Author.Needs.{needs}
 use Rattle.text.proofs.digit_of.Statement.{statement}
 use Rattle.text.proofs.digit_of.Tie as tie
 
--- src/lib.rt:177:16
 sub-result : tie.Need-sub-result
 sub-result c = low-digit _ (c .before .pre) (c .if1 .taken) .0
 
--- src/lib.rt:177:9
 returns : tie.Need-returns
 returns c = let d = low-digit _ (c .before .pre) (c .if1 .taken) in (low-value _ (d .1), omega (arith, d .1))
 
--- src/lib.rt:179:5
 sub-result-2 : tie.Need-sub-result-2
 sub-result-2 c = search needs
 
--- src/lib.rt:172:1
 returns-2 : tie.Need-returns-2
 returns-2 c = (high-value _ (c .if1 .left), omega (arith, high-digit _ (c .before .pre) (c .if1 .left)))
 

@@ -9,23 +9,18 @@ Inv-loop n m₀ count₀ m count = Counted n m count
 abbrev μ-loop : tie.MeasureT-loop
 μ-loop n m₀ count₀ m count = m
 
--- src/lib.rt:22:5
 loop-holds : tie.Need-loop-holds Inv-loop μ-loop
 loop-holds c = counted-first _ (omega arith)
 
--- src/lib.rt:24:9
 add-count : tie.Need-add-count Inv-loop μ-loop
 add-count c = omega (arith, c .before .loop .inv .total, c .before .loop .inv .few)
 
--- src/lib.rt:22:5
 loop-less : tie.Need-loop-less Inv-loop μ-loop
 loop-less c = omega arith
 
--- src/lib.rt:22:5
 loop-again : tie.Need-loop-again Inv-loop μ-loop
 loop-again c = counted-again (c .before .loop .inv) (c .loop-test .taken)
 
--- src/lib.rt:17:1
 returns : tie.Need-returns Inv-loop μ-loop
 returns c = counted-last (c .before .loop .inv) (omega arith)
 

@@ -3,19 +3,15 @@ use Rattle.text.proofs.Digits.{digit-below, digit-low, digit-between, d
 use Rattle.text.proofs.is_digit.Statement.{statement}
 use Rattle.text.proofs.is_digit.Tie as tie
 
--- src/lib.rt:147:9
 returns : tie.Need-returns
 returns c = sym (digit-below _ (c .if1 .taken))
 
--- src/lib.rt:150:9
 returns-2 : tie.Need-returns-2
 returns-2 c = sym (digit-low _ (c .before .if1 .left) (c .if2 .taken))
 
--- src/lib.rt:153:9
 returns-3 : tie.Need-returns-3
 returns-3 c = sym (digit-between _ (c .before .if2 .left) (c .if3 .taken))
 
--- src/lib.rt:143:1
 returns-4 : tie.Need-returns-4
 returns-4 c = sym (digit-high _ (c .if3 .left))
 

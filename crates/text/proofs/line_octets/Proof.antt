@@ -6,35 +6,27 @@ use borrow.Author.Needs.{needs}
 use Rattle.text.proofs.line_octets.Statement.{statement}
 use Rattle.text.proofs.line_octets.Tie as tie
 
--- src/lib.rt:205:9
 returns : tie.Need-returns
 returns c = (line-short (c .before .before .before .args .line .now) (omega arith), refl)
 
--- src/lib.rt:208:9
 returns-2 : tie.Need-returns-2
 returns-2 c = (line-long (c .before .before .before .before .args .line .now) (omega arith), refl)
 
--- src/lib.rt:211:9
 returns-3 : tie.Need-returns-3
 returns-3 c = (line-odd (c .before .before .before .before .before .args .line .now) (c .if3 .taken), refl)
 
--- src/lib.rt:213:9
 all-digits-requires : tie.Need-all-digits-requires
 all-digits-requires c κs = search needs
 
--- src/lib.rt:214:9
 returns-4 : tie.Need-returns-4
 returns-4 c = (line-not _ (sym (c .before .all-digits .ensures) ∙ not-true _ (c .if4 .taken)), refl)
 
--- src/lib.rt:216:18
 put-octets-requires : tie.Need-put-octets-requires
 put-octets-requires c κs = (sym (c .before .before .all-digits .ensures) ∙ not-false _ (c .before .if4 .left), line-room (c .before .before .before .before .before .before .before .before .args .line .now) (omega arith) (c .before .before .before .before .before .before .before .before .pre))
 
--- src/lib.rt:199:1
 same-length : tie.Need-same-length
 same-length c = search needs
 
--- src/lib.rt:199:1
 returns-5 : tie.Need-returns-5
 returns-5 c = (line-whole (c .before .before .before .before .before .before .before .before .before .before .before .args .line .now) (omega arith) (omega arith) (c .before .before .before .before .before .before .if3 .left) (sym (c .before .before .before .before .before .all-digits .ensures) ∙ not-false _ (c .before .before .before .before .if4 .left)), c .before .before .put-octets .ensures)
 

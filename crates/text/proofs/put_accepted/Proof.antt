@@ -3,19 +3,15 @@ use borrow.Author.Needs.{needs}
 use Rattle.text.proofs.put_accepted.Statement.{statement}
 use Rattle.text.proofs.put_accepted.Tie as tie
 
--- src/lib.rt:123:35
 cast-put-told : tie.Need-cast-put-told
 cast-put-told c = wide-fits _ (c .before .before .fits .conversation)
 
--- src/lib.rt:123:5
 put-told-requires : tie.Need-put-told-requires
 put-told-requires c κs = rw (wide _ (c .before .before .fits .conversation)) (c .before .before .pre)
 
--- src/lib.rt:119:1
 same-length : tie.Need-same-length
 same-length c = search needs
 
--- src/lib.rt:119:1
 returns : tie.Need-returns
 returns c = rw (wide _ (c .before .before .before .before .before .fits .conversation)) at (c .before .before .put-told .ensures)
 

@@ -10,47 +10,36 @@ use borrow.Author.Needs.{needs}
 use Rattle.text.proofs.put_number.Statement.{statement}
 use Rattle.text.proofs.put_number.Tie as tie
 
--- src/lib.rt:52:9
 slice-write-out : tie.Need-slice-write-out
 slice-write-out c = room-one (minus-spelt _ (c .before .before .fits .v) (c .if1 .taken)) (c .before .before .pre)
 
--- src/lib.rt:53:32
 add-put-digits : tie.Need-add-put-digits
 add-put-digits c = search needs
 
--- src/lib.rt:53:40
 cast-put-digits : tie.Need-cast-put-digits
 cast-put-digits c = cast-read w64 _ (c .before .before .before .fits .v) _ (down-read w64 _ (c .before .before .before .fits .v) (c .before .if1 .taken))
 
--- src/lib.rt:53:40
 add-put-digits-2 : tie.Need-add-put-digits-2
 add-put-digits-2 c = omega (arith, minus-size _ (c .before .before .before .fits .v) (c .before .if1 .taken), c .before .before .before .fits .v .sfits)
 
--- src/lib.rt:53:9
 put-digits-requires : tie.Need-put-digits-requires
 put-digits-requires c κs = room-after _ (minus-spelt _ (c .before .before .before .fits .v) (c .before .if1 .taken)) (c .before .before .before .pre) (omega arith)
 
--- src/lib.rt:53:9
 same-length : tie.Need-same-length
 same-length c = c .before .before .put-digits .kept .0 ∙ simp length-set
 
--- src/lib.rt:53:9
 returns : tie.Need-returns
 returns c = wrote-more (minus-spelt _ (c .before .before .before .before .before .before .fits .v) (c .before .before .before .before .if1 .taken)) (c .before .before .put-digits .ensures)
 
--- src/lib.rt:55:25
 cast-put-digits-2 : tie.Need-cast-put-digits-2
 cast-put-digits-2 c = cast-read w64 _ (c .before .before .before .fits .v) _ (up-read w64 _ (c .before .before .before .fits .v) (c .before .if1 .left))
 
--- src/lib.rt:55:5
 put-digits-requires-2 : tie.Need-put-digits-requires-2
 put-digits-requires-2 c κs = rw (plus-spelt _ (c .before .before .before .fits .v) (c .before .if1 .left)) at (c .before .before .before .pre)
 
--- src/lib.rt:47:1
 same-length-2 : tie.Need-same-length-2
 same-length-2 c = search needs
 
--- src/lib.rt:47:1
 returns-2 : tie.Need-returns-2
 returns-2 c = rw (plus-spelt _ (c .before .before .before .before .before .before .fits .v) (c .before .before .before .before .if1 .left)) (c .before .before .put-digits2 .ensures)
 

@@ -17,55 +17,42 @@ Inv-loop out₀ at values next₀ i₀ out next i = (i ≤ length values) × Lef
 abbrev μ-loop : tie.MeasureT-loop
 μ-loop out₀ at values next₀ i₀ out next i = length values - i
 
--- src/lib.rt:67:5
 loop-holds : tie.Need-loop-holds Inv-loop μ-loop
 loop-holds c = (omega arith, left-all (c .before .pre))
 
--- src/lib.rt:68:9
 slice-write-out : tie.Need-slice-write-out Inv-loop μ-loop
 slice-write-out c = left-place (c .before .loop .inv .1) (numbers-at _ _ (c .loop-test .taken))
 
--- src/lib.rt:69:32
 add-put-number : tie.Need-add-put-number Inv-loop μ-loop
 add-put-number c = omega (arith, left-place (c .before .before .loop .inv .1) (numbers-at _ _ (c .before .loop-test .taken)))
 
--- src/lib.rt:69:42
 mul-put-number : tie.Need-mul-put-number Inv-loop μ-loop
 mul-put-number c = search needs
 
--- src/lib.rt:69:42
 shared-slice-copy-out-put-number : tie.Need-shared-slice-copy-out-put-number Inv-loop μ-loop
 shared-slice-copy-out-put-number c = c .before .loop-test .taken
 
--- src/lib.rt:69:9
 put-number-requires : tie.Need-put-number-requires Inv-loop μ-loop
 put-number-requires c κs = rw (toZ-ofZ w64 _ (record { sfits = c .put-number-arg2 .given })) (left-after (c .before .before .before .loop .inv .1) _ _ _ (numbers-at _ _ (c .before .before .loop-test .taken)) (omega arith))
 
--- src/lib.rt:70:9
 add-i : tie.Need-add-i Inv-loop μ-loop
 add-i c = omega arith
 
--- src/lib.rt:67:5
 loop-less : tie.Need-loop-less Inv-loop μ-loop
 loop-less c = omega arith
 
--- src/lib.rt:67:5
 loop-again : tie.Need-loop-again Inv-loop μ-loop
 loop-again c = (omega arith, left-part (left-one (c .before .before .before .before .before .before .loop .inv .1) (numbers-at _ _ (c .before .before .before .before .before .loop-test .taken))) _ refl (rw (toZ-ofZ w64 _ (record { sfits = c .before .before .before .put-number-arg2 .given })) at (c .before .before .put-number .ensures)))
 
--- src/lib.rt:72:5
 slice-write-out-2 : tie.Need-slice-write-out-2 Inv-loop μ-loop
 slice-write-out-2 c = left-place (c .before .loop .inv .1) (numbers-end _ _ (c .loop-test .left))
 
--- src/lib.rt:73:5
 add-result : tie.Need-add-result Inv-loop μ-loop
 add-result c = omega (arith, left-place (c .before .loop .inv .1) (numbers-end _ _ (c .loop-test .left)))
 
--- src/lib.rt:61:1
 same-length : tie.Need-same-length Inv-loop μ-loop
 same-length c = left-one (c .before .loop .inv .1) (numbers-end _ _ (c .loop-test .left)) .kept
 
--- src/lib.rt:61:1
 returns : tie.Need-returns Inv-loop μ-loop
 returns c = left-none (left-one (c .before .loop .inv .1) (numbers-end _ _ (c .loop-test .left))) refl
 

@@ -13,67 +13,51 @@ Inv-loop out₀ line n i₀ out i = (i ≤ n) × Left (octetsOf line) 0 out₀ (
 abbrev μ-loop : tie.MeasureT-loop
 μ-loop out₀ line n i₀ out i = n - i
 
--- src/lib.rt:189:5
 loop-holds : tie.Need-loop-holds Inv-loop μ-loop
 loop-holds c = (omega arith, left-all (c .before .before .pre .1))
 
--- src/lib.rt:190:34
 mul-digit-of : tie.Need-mul-digit-of Inv-loop μ-loop
 mul-digit-of c = omega arith
 
--- src/lib.rt:190:29
 shared-slice-read-digit-of : tie.Need-shared-slice-read-digit-of Inv-loop μ-loop
 shared-slice-read-digit-of c = omega arith
 
--- src/lib.rt:190:13
 digit-of-requires : tie.Need-digit-of-requires Inv-loop μ-loop
 digit-of-requires c κs = all-digit _ (c .before .before .before .before .before .pre .0) _ (omega arith)
 
--- src/lib.rt:191:33
 mul-digit-of-2 : tie.Need-mul-digit-of-2 Inv-loop μ-loop
 mul-digit-of-2 c = omega arith
 
--- src/lib.rt:191:33
 add-digit-of : tie.Need-add-digit-of Inv-loop μ-loop
 add-digit-of c = omega arith
 
--- src/lib.rt:191:28
 shared-slice-read-digit-of-2 : tie.Need-shared-slice-read-digit-of-2 Inv-loop μ-loop
 shared-slice-read-digit-of-2 c = omega arith
 
--- src/lib.rt:191:13
 digit-of-requires-2 : tie.Need-digit-of-requires-2 Inv-loop μ-loop
 digit-of-requires-2 c κs = all-digit _ (c .before .before .before .before .before .before .before .pre .0) _ (omega arith)
 
--- src/lib.rt:192:18
 mul-out : tie.Need-mul-out Inv-loop μ-loop
 mul-out c = omega arith
 
--- src/lib.rt:192:18
 add-out : tie.Need-add-out Inv-loop μ-loop
 add-out c = omega arith
 
--- src/lib.rt:192:9
 slice-write-out : tie.Need-slice-write-out Inv-loop μ-loop
 slice-write-out c = left-place (c .before .before .before .before .before .loop .inv .1) (octets-more _ _ (c .before .before .before .before .loop-test .taken) (c .before .before .digit-of .ensures .0) (c .digit-of2 .ensures .0))
 
--- src/lib.rt:193:9
 add-i : tie.Need-add-i Inv-loop μ-loop
 add-i c = omega arith
 
--- src/lib.rt:189:5
 loop-less : tie.Need-loop-less Inv-loop μ-loop
 loop-less c = omega arith
 
--- src/lib.rt:189:5
 loop-again : tie.Need-loop-again Inv-loop μ-loop
 loop-again c = (omega arith, left-one (c .before .before .before .before .before .loop .inv .1) (octets-more _ _ (c .before .before .before .before .loop-test .taken) (c .before .before .digit-of .ensures .0) (c .digit-of2 .ensures .0)))
 
--- src/lib.rt:183:1
 same-length : tie.Need-same-length Inv-loop μ-loop
 same-length c = c .before .loop .inv .1 .kept
 
--- src/lib.rt:183:1
 returns : tie.Need-returns Inv-loop μ-loop
 returns c = left-none (c .before .loop .inv .1) (octets-end _ _ (c .loop-test .left))
 

@@ -5,19 +5,15 @@ use borrow.Author.Needs.{needs}
 use Rattle.text.proofs.put_refused.Statement.{statement}
 use Rattle.text.proofs.put_refused.Tie as tie
 
--- src/lib.rt:131:35
 cast-put-told : tie.Need-cast-put-told
 cast-put-told c = search needs
 
--- src/lib.rt:131:5
 put-told-requires : tie.Need-put-told-requires
 put-told-requires c κs = rw (toZ-pos w64 (c .before .before .before .args .r .number) (omega arith)) (c .before .before .before .pre)
 
--- src/lib.rt:127:1
 same-length : tie.Need-same-length
 same-length c = search needs
 
--- src/lib.rt:127:1
 returns : tie.Need-returns
 returns c = rw (toZ-pos w64 (c .before .before .before .before .before .before .args .r .number) (omega arith)) at (c .before .before .put-told .ensures)
 

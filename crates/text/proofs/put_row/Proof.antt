@@ -6,31 +6,24 @@ use borrow.Author.Needs.{needs}
 use Rattle.text.proofs.put_row.Statement.{statement}
 use Rattle.text.proofs.put_row.Tie as tie
 
--- src/lib.rt:98:36
 cast-put-number : tie.Need-cast-put-number
 cast-put-number c = wide-fits (c .before .before .before .before .args .r .ty) (record { sfits = c .struct-told .given .0 .1 })
 
--- src/lib.rt:98:9
 put-number-requires : tie.Need-put-number-requires
 put-number-requires c κs = rw (wide (c .before .before .before .before .args .r .ty) (record { sfits = c .struct-told .given .0 .1 })) (left-fits (left-all (c .before .before .before .before .pre)) _ _ refl)
 
--- src/lib.rt:99:18
 others-of-requires : tie.Need-others-of-requires
 others-of-requires c κs = search needs
 
--- src/lib.rt:100:28
 slice-aggregate-put-numbers : tie.Need-slice-aggregate-put-numbers
 slice-aggregate-put-numbers c = search needs
 
--- src/lib.rt:100:5
 put-numbers-requires : tie.Need-put-numbers-requires
 put-numbers-requires c κs = rw (c .before .before .others-of .ensures) (row-begun (c .before .before .before .before .before .before .before .before .before .before .args .r) (record { sfits = c .before .before .before .before .before .before .struct-told .given .0 .1 }) (c .before .before .before .before .before .before .before .before .before .before .pre) (c .before .before .before .before .before .put-number .ensures) .room)
 
--- src/lib.rt:94:1
 same-length : tie.Need-same-length
 same-length c = search needs
 
--- src/lib.rt:94:1
 returns : tie.Need-returns
 returns c = row-begun (c .before .before .before .before .before .before .before .before .before .before .before .before .before .args .r) (record { sfits = c .before .before .before .before .before .before .before .before .before .struct-told .given .0 .1 }) (c .before .before .before .before .before .before .before .before .before .before .before .before .before .pre) (c .before .before .before .before .before .before .before .before .put-number .ensures) .rest (rw (c .before .before .before .before .before .others-of .ensures) at (c .before .before .put-numbers .ensures))
 
