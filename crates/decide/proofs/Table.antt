@@ -13,11 +13,10 @@ use mir.Syntax.{w32}
 use mir.Val.{SFits, toZ, ofZ}
 use Rattle.integer.proofs.Signs.{held}
 use Rattle.format.specs.Types.{kindOf}
-use Rattle.scalar.specs.declared.Bits.the-variants.{Bits32}
 use Rattle.decide.specs.declared.Class.{Class}
-use Rattle.decide.specs.declared.Class.the-variants.{Refused, Small, Int, Holder}
+use Rattle.decide.specs.declared.Class.the-variants.{Refused, Small, Holder}
 use Rattle.decide.specs.declared.Inside.the-variants.{User}
-use Rattle.decide.specs.Classes.{Is, mayBeElement, leastOf, elementary, ClassOf, bitsOf}
+use Rattle.decide.specs.Classes.{Is, mayBeElement, leastOf, elementary, ClassOf}
 use Rattle.decide.proofs.Keys.{any, below, below-at, Missed, missed}
 
 pub clash : {A : Type 0} {t : Bool} → t ≡ true → t ≡ false → A
@@ -26,7 +25,7 @@ clash e f = let z : _≡_ {A = ℕ} 0 1 = cc in absurd (omega arith)
 -- ---- the keys of a `match` on a type, as the code holds it
 
 module _ {t : ℤ} (f : SFits w32 t) where
-  pub key : {k : ℕ} → ofZ w32 t ≡ k → t ≡ toZ w32 k
+  key : {k : ℕ} → ofZ w32 t ≡ k → t ≡ toZ w32 k
   key e = sym (held f) ∙ ap (toZ w32) e
 
   -- a class known at a key
@@ -53,11 +52,6 @@ pub made : {t : ℤ} {r q : Class} → r ≡ q → ClassOf t q → ClassOf t r
 made {t} e h = subst (ClassOf t) (sym e) h
 
 -- ---- the ranges
-
-pub is-user : (t : ℤ) → ltZ t (pos 0) ≡ false → ClassOf t (Holder (record { first = false; second = false; inside = User }))
-unfolding kindOf
-is-user (pos n) h = as-element refl refl (lit< tt)
-is-user (negsuc n) h = clash refl h
 
 -- below -64 nothing is known
 unknown : (n : ℕ) → 64 ≤ n → kindOf (negsuc n) .carried ≡ false
@@ -100,28 +94,15 @@ pub is-small : (t : ℤ) → ltZ t (negsuc 63) ≡ false → ltZ t (negsuc 31) �
 is-small (pos n) h g = clash g refl
 is-small (negsuc n) h g = let p = ltb-false 63 n h in let q = ltb-true 31 n g in no-element (small n (omega arith) (omega arith)) refl (too-low n (omega arith))
 
--- -1 to -3 and -11: packed integers
-pub is-packed : (t : ℤ) → ltZ t (negsuc 2) ≡ false → ltZ t (pos 0) ≡ true → ClassOf t (Int (bitsOf t))
-unfolding kindOf
-is-packed (pos n) h g = absurd (omega (arith, ltb-true n 0 g))
-is-packed (negsuc zero) h g = as-element (_, refl) refl (lit< tt)
-is-packed (negsuc (suc zero)) h g = as-element (_, refl) refl (lit< tt)
-is-packed (negsuc (suc (suc zero))) h g = as-element (_, refl) refl (lit< tt)
-is-packed (negsuc (suc (suc (suc n)))) h g = absurd (omega (arith, ltb-false 2 (suc (suc (suc n))) h))
-
-pub is-boolean : {t : ℤ} → t ≡ negsuc 10 → ClassOf t (Int (bitsOf t))
-unfolding kindOf
-is-boolean e = subst (λ (z : ℤ). ClassOf z (Int (bitsOf z))) (sym e) (as-element (_, refl) refl (lit< tt))
-
--- the keys between -4 and -32, by n of the type -1 - n
+-- the keys between -1 and -32, by n of the type -1 - n
 abbrev keys : List (List ℕ)
 keys = map (map (λ n. ofZ w32 (negsuc n)))
-    ((10 ∷ []) ∷ (4 ∷ []) ∷ (5 ∷ []) ∷ (11 ∷ []) ∷ (12 ∷ []) ∷ (13 ∷ []) ∷ (14 ∷ []) ∷ (15 ∷ []) ∷ (17 ∷ []) ∷ (19 ∷ []) ∷ (23 ∷ 21 ∷ []) ∷ (24 ∷ 22 ∷ [])
-    ∷ (25 ∷ []) ∷ (26 ∷ []) ∷ (27 ∷ []) ∷ (28 ∷ []) ∷ (29 ∷ []) ∷ (30 ∷ []) ∷ (31 ∷ []) ∷ [])
+    ((0 ∷ []) ∷ (10 ∷ 1 ∷ []) ∷ (2 ∷ []) ∷ (4 ∷ []) ∷ (5 ∷ []) ∷ (11 ∷ []) ∷ (12 ∷ []) ∷ (13 ∷ []) ∷ (14 ∷ []) ∷ (15 ∷ []) ∷ (17 ∷ []) ∷ (19 ∷ [])
+    ∷ (23 ∷ 21 ∷ []) ∷ (24 ∷ 22 ∷ []) ∷ (25 ∷ []) ∷ (26 ∷ []) ∷ (27 ∷ []) ∷ (28 ∷ []) ∷ (29 ∷ []) ∷ (30 ∷ []) ∷ (31 ∷ []) ∷ [])
 
 -- and the others between them are not carried: one test over all
 listed : ℕ → Bool
-listed n = ltb n 3 || (any keys (ofZ w32 (negsuc n)) || not (kindOf (negsuc n) .carried))
+listed n = any keys (ofZ w32 (negsuc n)) || not (kindOf (negsuc n) .carried)
 
 all-listed : below listed 32 ≡ true
 unfolding kindOf listed
@@ -132,22 +113,14 @@ unfolding listed
 is-rest (pos n) h g m = clash g refl
 is-rest (negsuc n) h g m =
     refused
-    (by (ltb n 3) (any keys (ofZ w32 (negsuc n))) (kindOf (negsuc n) .carried) (le-ltb n 3 (omega (arith, ltb-true 2 n g))) (missed keys (ofZ w32 (negsuc n)) m)
-    (below-at listed 32 all-listed n (omega (arith, ltb-false 31 n h))))
+    (by (any keys (ofZ w32 (negsuc n))) (kindOf (negsuc n) .carried) (missed keys (ofZ w32 (negsuc n)) m) (below-at listed 32 all-listed n (omega (arith, ltb-false 31 n h))))
   where
-    by : (l a c : Bool) → l ≡ false → a ≡ false → l || (a || not c) ≡ true → c ≡ false
-    by true a c d e t = clash refl d
-    by false true c d e t = clash refl e
-    by false false c d e t = not-true c t
+    by : (a c : Bool) → a ≡ false → a || not c ≡ true → c ≡ false
+    by true c e t = clash refl e
+    by false c e t = not-true c t
 
--- ---- the bits
-
-pub bits-at : {t : ℤ} → SFits w32 t → {k : ℕ} → ofZ w32 t ≡ k → bitsOf (toZ w32 k) ≡ bitsOf t
-bits-at f e = ap bitsOf (sym (key f e))
-
-pub bits-rest : (t : ℤ) → Missed ((ofZ w32 (negsuc 0) ∷ []) ∷ (ofZ w32 (negsuc 2) ∷ []) ∷ []) (ofZ w32 t) (Unit {0}) → Bits32 ≡ bitsOf t
-bits-rest (pos n) m = refl
-bits-rest (negsuc zero) m = absurd (m .0 .1 refl)
-bits-rest (negsuc (suc zero)) m = refl
-bits-rest (negsuc (suc (suc zero))) m = absurd (m .1 refl)
-bits-rest (negsuc (suc (suc (suc n)))) m = refl
+-- -1 to -3 are keys, so what is left from -3 up is a user type
+pub is-user : (t : ℤ) → ltZ t (negsuc 2) ≡ false → Missed keys (ofZ w32 t) (Unit {0}) → ClassOf t (Holder (record { first = false; second = false; inside = User }))
+unfolding kindOf
+is-user (pos n) h m = as-element refl refl (lit< tt)
+is-user (negsuc n) h m = clash (below-at (λ k. any keys (ofZ w32 (negsuc k))) 3 refl n (omega (arith, ltb-false 2 n h))) (missed keys (ofZ w32 (negsuc n)) m)

@@ -1,12 +1,10 @@
 -- What the class of a type tells of its data.
 use mathlib.Core.Path.{_≡_}
 use mathlib.Core.Bool.{Bool, true, false, cond, _&&_}
-use Prim.Native.Nat.{ℕ, zero, suc, _<_}
-use lib.IntN.{ℤ, pos, negsuc}
+use Prim.Native.Nat.{ℕ, _<_}
+use lib.IntN.{ℤ, negsuc}
 use lib.Signed.{ltZ}
 use Rattle.format.specs.Types.{packed, fixed, code, implied, Text, octets, characters, Holds, nothing, values, couples, indexes, properties, one, silent, gives, refers, Sort, scalar, string, dated, container, kindOf}
-use Rattle.scalar.specs.declared.Bits.{Bits}
-use Rattle.scalar.specs.declared.Bits.the-variants.{Bits16, Bits32, Bits64}
 use Rattle.scalar.specs.Answers.{widthOf}
 use Rattle.scalar.specs.Moments.{partsOf}
 use Rattle.decide.specs.declared.Inside.{Inside}
@@ -72,11 +70,3 @@ pub record ClassOf (t : ℤ) (r : Class) : Type 0 where
   pub is : Is r t
   pub element : mayBeElement r ≡ elementary t
   pub least : mayBeElement r ≡ true → 0 < leastOf r
-
--- the bits of a packed integer type: -1 has 16, -3 has 64, -2 and -11 have 32
-abbrev pub bitsOf : ℤ → Bits
-bitsOf (pos n) = Bits32
-bitsOf (negsuc zero) = Bits16
-bitsOf (negsuc (suc zero)) = Bits32
-bitsOf (negsuc (suc (suc zero))) = Bits64
-bitsOf (negsuc (suc (suc (suc n)))) = Bits32

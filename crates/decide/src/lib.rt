@@ -3,7 +3,7 @@ ghost use Prim.Native.Nat.{_^_, _<_, _≤_};
 ghost use lib.ListN.{length};
 ghost use Rattle.reading.specs.Reading.{refusal};
 ghost use Rattle.format.specs.Values.{label};
-ghost use Rattle.decide.specs.Classes.{bitsOf, ClassOf, mayBeElement};
+ghost use Rattle.decide.specs.Classes.{ClassOf, mayBeElement};
 ghost use Rattle.decide.specs.Elements.{AmountAt, ElementAt, TypeAt};
 ghost use Rattle.decide.specs.Forms.{ownOf, IdentifierAt, TypedAt, formOf, alikeNest, nestIn, turn};
 ghost use Rattle.decide.specs.Gates.{IndexNext, NextAt, nextLow};
@@ -53,24 +53,15 @@ fn holder(first: bool, second: bool, inside: Inside) -> Class
     })
 }
 
-// The bits of a packed integer type.
-fn bits_of(t: i32) -> Bits
-    ensures { λ r. ⌜ r ≡ bitsOf t ⌝ }
-{
-    match t {
-        -1 => Bits::Bits16,
-        -3 => Bits::Bits64,
-        _ => Bits::Bits32,
-    }
-}
-
 // The class of a type.
 pub fn class_of(t: i32) -> Class
     ensures { λ r. ⌜ ClassOf t r ⌝ }
 {
     match t {
         0..=2147483647 => holder(false, false, Inside::User),
-        -1 | -2 | -3 | -11 => Class::Int(bits_of(t)),
+        -1 => Class::Int(Bits::Bits16),
+        -2 | -11 => Class::Int(Bits::Bits32),
+        -3 => Class::Int(Bits::Bits64),
         -5 => Class::Fixed(4),
         -6 => Class::Fixed(8),
         -12 => Class::Fixed(1),
