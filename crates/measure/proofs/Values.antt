@@ -12,7 +12,7 @@ use mir.Syntax.{w32}
 use mir.Val.{toZ, ofZ}
 use Rattle.integer.proofs.Signs.{held}
 use Rattle.reading.specs.declared.Refusal.{Refusal}
-use Rattle.reading.specs.Reading.{State, Out, got, stop, stand, follow, _>>=_, return}
+use Rattle.reading.specs.Reading.{State, Out, got, stop, Reader, stand, follow, _>>=_, return}
 use Rattle.format.specs.Types.{Parts}
 use Rattle.format.specs.Data.{moment}
 use Rattle.format.specs.Values.{Value, dataOf}
@@ -33,7 +33,7 @@ use Rattle.measure.specs.declared.Plan.{Plan}
 use Rattle.measure.specs.declared.Plan.the-variants.{Refuse, Single, Inner as Nested}
 use Rattle.measure.specs.Identities.{envOf}
 use Rattle.measure.specs.Tally.{valueRows}
-use Rattle.measure.specs.Plans.{onceOf, PlanIs, momentPlan, DataPlan, ValuePlan}
+use Rattle.measure.specs.Plans.{onceOf, PlanIs, FewParts, momentPlan, DataPlan, ValuePlan}
 use Rattle.measure.proofs.Data.{dated-rows}
 use Rattle.measure.proofs.Heads.{headed, odd}
 use Rattle.measure.proofs.Plans.{judged-silent}
@@ -47,6 +47,10 @@ counted-one d s x e = rw e (by (moment d s))
     by : (y : Out (List ℤ)) → follow y (λ l. return (1 + length l)) ≡ follow (follow y (λ l. return (length l))) (λ n. return (1 + n))
     by (got l t) = refl
     by (stop r) = refl
+
+pub few-parts : {o : List ℕ} {at : ℕ} {p : Reader ℕ} (m : Moment) → Passing o at 10 p m → FewParts m
+few-parts (Counted next n) h = omega (arith, h .past .2)
+few-parts (Unfit r) h = tt
 
 pub moment-plan : {o l : List ℕ} {once : Bool} {at p : ℕ} {d : Which} {m : Moment} {w : Plan} → Passing o at 10 (countOf (partsOf d)) m → w ≡ momentPlan m → DataPlan o l (Parted d) once at p w
 unfolding return

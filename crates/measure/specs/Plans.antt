@@ -80,6 +80,11 @@ abbrev pub planOf : Passed → Plan
 planOf (Past next) = Single next 0
 planOf (Refused r) = Refuse r
 
+-- parts that an octet counts
+abbrev pub FewParts : Moment → Type 0
+FewParts (Counted next n) = n < 256
+FewParts (Unfit r) = Unit {0}
+
 abbrev pub momentPlan : Moment → Plan
 momentPlan (Counted next n) = Single next n
 momentPlan (Unfit r) = Refuse r

@@ -4,7 +4,7 @@ ghost use lib.ListN.{length};
 ghost use Rattle.format.specs.Values.{has};
 ghost use Rattle.measure.specs.Identities.{listed, given, ended, one, Ids, Begun, Closed};
 ghost use Rattle.decide.specs.declared.Class.the-variants.{Identity};
-ghost use Rattle.measure.specs.Plans.{planOf, TextPlan, HolderPlan, DataPlan, ReferencePlan, momentPlan, onceOf, ValuePlan};
+ghost use Rattle.measure.specs.Plans.{planOf, TextPlan, HolderPlan, DataPlan, ReferencePlan, FewParts, momentPlan, onceOf, ValuePlan};
 ghost use Rattle.measure.specs.Cycle.{TooDeep, DeepAt, CanRead, HasRead, CanHold, HasHeld};
 ghost use Rattle.measure.specs.Entries.{FirstAt, Outermost, answerOf, rowsNeeded};
 ghost use Rattle.format.specs.Message.{measure as lengthOf};
@@ -29,10 +29,11 @@ pub struct Contents {
     pub named: bool,
 }
 
-// What is found of a value: a refusal; the place past it and its parts; or a container.
+// What is found of a value: a refusal; the place past it and its parts, at most 10; or a container. The parts are counted in an octet, as wide as a
+// refusal's number: one layout for both.
 pub enum Plan {
     Refuse(Refusal),
-    Single(usize, usize),
+    Single(usize, u8),
     Inner(Contents),
 }
 
@@ -90,10 +91,11 @@ fn passed(answer: Passed) -> Plan
 }
 
 fn timed(answer: Moment) -> Plan
+    requires { ⌜ FewParts answer ⌝ }
     ensures { λ r. ⌜ r ≡ momentPlan answer ⌝ }
 {
     match answer {
-        Moment::Parts(next, n) => Plan::Single(next, n),
+        Moment::Parts(next, n) => Plan::Single(next, n as u8),
         Moment::Unfit(r) => Plan::Refuse(r),
     }
 }
@@ -289,7 +291,7 @@ fn value(src: &[u8], ids: &mut [u32], form: Form, at: usize, rows: usize, depth:
     }
     match plan_at(src, ids, form, at) {
         Plan::Refuse(r) => Step::Stop(r),
-        Plan::Single(next, parts) => Step::On(next, rows + 1 + parts),
+        Plan::Single(next, parts) => Step::On(next, rows + 1 + parts as usize),
         Plan::Inner(contents) => elements(src, ids, contents, rows + 1, depth - 1),
     }
 }

@@ -130,8 +130,11 @@ value-enum-known-next t c = c .match .keys2
 value-add-t17 : (t : ℕ) → value-lts.Need-add-t17 (value-claims t) (value-at t) value.Post
 value-add-t17 t c = record { fits = rows-fit (c .before .before .before .before .before .before .before .before .pre .1) }
 
-value-add-t18 : (t : ℕ) → value-lts.Need-add-t18 (value-claims t) (value-at t) value.Post
-value-add-t18 t c = record { fits = parts-fit (c .before .before .before .before .before .before .before .before .pre .1) (c .before .before .before .plan-at .ensures) (c .before .next .given .1) }
+value-cast-t18 : (t : ℕ) → value-lts.Need-cast-t18 (value-claims t) (value-at t) value.Post
+value-cast-t18 t c = search needs
+
+value-add-t19 : (t : ℕ) → value-lts.Need-add-t19 (value-claims t) (value-at t) value.Post
+value-add-t19 t c = record { fits = parts-fit (c .before .before .before .before .before .before .before .before .pre .1) (c .before .before .before .plan-at .ensures) (c .before .next .given .1) }
 
 value-enum-known-contents : (t : ℕ) → value-lts.Need-enum-known-contents (value-claims t) (value-at t) value.Post
 value-enum-known-contents t c = c .match .keys3
@@ -196,7 +199,8 @@ pub +elements+value-spec : {M : Type 1} → statement M
     (value-enum-known-r t)
     (value-enum-known-next t)
     (value-add-t17 t)
-    (value-add-t18 t)
+    (value-cast-t18 t)
+    (value-add-t19 t)
     (value-enum-known-contents t)
     (value-add-elements t)
     (value-sub-elements t)

@@ -1,5 +1,5 @@
 use Rattle.measure.proofs.Plans.{uncarried-plan, small-plan, int-plan, fixed-plan, char-plan}
-use Rattle.measure.proofs.Values.{moment-plan, as-class}
+use Rattle.measure.proofs.Values.{few-parts, moment-plan, as-class}
 use borrow.Author.Needs.{needs}
 use Rattle.measure.proofs.data_plan.Statement.{statement}
 use Rattle.measure.proofs.data_plan.Tie as tie
@@ -44,7 +44,7 @@ moment-past-requires : tie.Need-moment-past-requires
 moment-past-requires c κs = search needs
 
 timed-requires : tie.Need-timed-requires
-timed-requires c κs = search needs
+timed-requires c κs = few-parts _ (c .moment-past .ensures)
 
 enum-known-class-4 : tie.Need-enum-known-class-4
 enum-known-class-4 c = search needs
