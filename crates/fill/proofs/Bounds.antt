@@ -13,7 +13,7 @@ use Rattle.decide.specs.Gates.{nextLow, pastNext, NextAt}
 use Rattle.fill.specs.declared.Found.{Found}
 use Rattle.fill.specs.declared.Found.the-variants.{Leaf, Holder}
 use Rattle.fill.specs.declared.Step.{Step}
-use Rattle.fill.specs.Columns.{Stored}
+use Rattle.fill.specs.Columns.{Kept, Stored}
 use Rattle.fill.specs.Rows.{pastFound, RowAt}
 use Rattle.fill.specs.Filling.{Ready, FilledValue}
 use Rattle.fill.proofs.Columns.{roomy}
@@ -30,6 +30,9 @@ take-one h = omega arith
 
 pub one-row : {o : List ℕ} {lim at k : ℕ} {t : Table} → Ready o lim at k t → k + 1 < 2 ^ 64
 one-row r = omega (arith, r .below, r .few)
+
+pub ready-kept : {o : List ℕ} {lim at k : ℕ} {t u : Table} → Kept u t → Ready o lim at k t → Ready o lim at k u
+ready-kept ks r = record { room = roomy ks (r .room); short = r .short; few = r .few; inside = r .inside; below = r .below }
 
 pub holder-ready : {o : List ℕ} {form : Form} {i at : ℕ} {x : Found} {lim k : ℕ} {t : Table} {row : Row} {n : Nest} → RowAt o form i at x → x ≡ Holder row n → k < lim → Ready o lim at k t → Ready o lim (row .end) (k + 1) t × (n .count < 2 ^ 32)
 holder-ready {o} {at = at} x q l r = let p = subst (pastFound o at) q (x .past) in (record { room = r .room; short = r .short; few = r .few; inside = p .1; below = omega arith }, p .2)

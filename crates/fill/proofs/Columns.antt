@@ -6,20 +6,25 @@ use Prim.Native.Nat.{ℕ, suc, _+_, _≤_, _<_}
 use native.Mathlib.Omega.{arith}
 use native.Mathlib.Nat.{add-zero}
 use native.Mathlib.Numerals.{add-one}
-use borrow.Author.Tests.{lt-ltb}
+use borrow.Author.Tests.{lt-ltb, le-ltb}
 use lib.ListN.{length, set, drop, take, length-map, take-append-drop}
 use lib.Seq.{set-comm, take-suc, append-snoc, set-at, length-take-le}
 use lib.Dec.{ltb}
-use lib.IntN.{ℤ}
+use lib.IntN.{ℤ, pos}
 use Rattle.format.specs.declared.Row.{Row}
 use Rattle.format.specs.Writing.{Table}
-use Rattle.fill.specs.Columns.{Roomy, Kept, put, putRow, puts, over, Filled}
+use Rattle.fill.specs.Columns.{columns, Roomy, Kept, put, putRow, Stored, seven, LeafRoom, LeafStored, Blank, puts, over, Filled}
+use Rattle.fill.specs.Rows.{Single}
 
 pub kept-same : {t : Table} → Kept t t
 kept-same = record { ty-kept = refl; own-kept = refl; label-kept = refl; number-kept = refl; first-kept = refl; second-kept = refl; place-kept = refl; below-kept = refl; start-kept = refl; end-kept = refl }
 
 pub kept-trans : {t u v : Table} → Kept t u → Kept u v → Kept t v
 kept-trans a b = record { ty-kept = a .ty-kept ∙ b .ty-kept; own-kept = a .own-kept ∙ b .own-kept; label-kept = a .label-kept ∙ b .label-kept; number-kept = a .number-kept ∙ b .number-kept; first-kept = a .first-kept ∙ b .first-kept; second-kept = a .second-kept ∙ b .second-kept; place-kept = a .place-kept ∙ b .place-kept; below-kept = a .below-kept ∙ b .below-kept; start-kept = a .start-kept ∙ b .start-kept; end-kept = a .end-kept ∙ b .end-kept }
+
+pub kept-three : {ty number first second first₁ second₁ : List ℤ} {own label place below below₁ start end : List ℕ} → length first₁ ≡ length first → length second₁ ≡ length second → length below₁ ≡ length below
+    → Kept (columns ty own label number first₁ second₁ place below₁ start end) (columns ty own label number first second place below start end)
+kept-three p q s = record { ty-kept = refl; own-kept = refl; label-kept = refl; number-kept = refl; first-kept = p; second-kept = q; place-kept = refl; below-kept = s; start-kept = refl; end-kept = refl }
 
 pub roomy : {lim : ℕ} {t u : Table} → Kept t u → Roomy lim u → Roomy lim t
 roomy ks r = record { ty-room = rw (ks .ty-kept) (r .ty-room); own-room = rw (ks .own-kept) (r .own-room); label-room = rw (ks .label-kept) (r .label-room); number-room = rw (ks .number-kept) (r .number-room); first-room = rw (ks .first-kept) (r .first-room); second-room = rw (ks .second-kept) (r .second-room); place-room = rw (ks .place-kept) (r .place-room); below-room = rw (ks .below-kept) (r .below-room); start-room = rw (ks .start-kept) (r .start-room); end-room = rw (ks .end-kept) (r .end-room) }
@@ -39,6 +44,52 @@ same-table : {ty ty' : List ℤ} {own own' : List ℕ} {label label' : List ℕ}
     → _≡_ {A = Table} (record { ty = ty; own = own; label = label; number = number; first = first; second = second; place = place; below = below; start = start; end = end })
     (record { ty = ty'; own = own'; label = label'; number = number'; first = first'; second = second'; place = place'; below = below'; start = start'; end = end' })
 same-table p0 p1 p2 p3 p4 p5 p6 p7 p8 p9 = rw (p0, p1, p2, p3, p4, p5, p6, p7, p8, p9)
+
+-- ---- stored or not, by the limit
+
+put-below : {A : Type 0} {lim k : ℕ} (l : List A) {v w : A} → k < lim → w ≡ v → set l k w ≡ put lim l k v
+put-below {lim = lim} {k = k} l h e = rw (lt-ltb k lim h, e)
+
+put-beyond : {A : Type 0} {lim k : ℕ} (l : List A) (v : A) → lim ≤ k → l ≡ put lim l k v
+put-beyond {lim = lim} {k = k} l v h = rw (le-ltb k lim h)
+
+-- ---- a row in seven columns
+
+module _ {lim : ℕ} {ty number : List ℤ} {own label place start end : List ℕ} where
+  pub leaf-below : {k : ℕ} {r : Row} {t n : ℤ} → k < lim → t ≡ r .ty → n ≡ r .number
+      → LeafStored lim k r (seven ty own label number place start end) (seven (set ty k t) (set own k (r .own)) (set label k (r .label)) (set number k n) (set place k (r .place)) (set start k (r .start)) (set end k (r .end)))
+  leaf-below h p q = record { ty-stored = put-below ty h p; own-stored = put-below own h refl; label-stored = put-below label h refl; number-stored = put-below number h q; place-stored = put-below place h refl; start-stored = put-below start h refl; end-stored = put-below end h refl }
+
+  pub leaf-beyond : {k : ℕ} {r : Row} → lim ≤ k → LeafStored lim k r (seven ty own label number place start end) (seven ty own label number place start end)
+  leaf-beyond {r = r} h = record { ty-stored = put-beyond ty (r .ty) h; own-stored = put-beyond own (r .own) h; label-stored = put-beyond label (r .label) h; number-stored = put-beyond number (r .number) h; place-stored = put-beyond place (r .place) h; start-stored = put-beyond start (r .start) h; end-stored = put-beyond end (r .end) h }
+
+  module _ {first second : List ℤ} {below : List ℕ} where
+    pub leaf-room : Roomy lim (columns ty own label number first second place below start end) → LeafRoom lim (seven ty own label number place start end)
+    leaf-room r = record { ty-room = r .ty-room; own-room = r .own-room; label-room = r .label-room; number-room = r .number-room; place-room = r .place-room; start-room = r .start-room; end-room = r .end-room }
+
+    module _ {k : ℕ} {r : Row} {ty' number' : List ℤ} {own' label' place' start' end' : List ℕ} (st : LeafStored lim k r (seven ty own label number place start end) (seven ty' own' label' number' place' start' end')) where
+      -- with the other three the row is stored
+      leaf-and-three : {first' second' : List ℤ} {below' : List ℕ} → first' ≡ put lim first k (r .first) → second' ≡ put lim second k (r .second) → below' ≡ put lim below k (r .below)
+          → Stored lim k r (columns ty own label number first second place below start end) (columns ty' own' label' number' first' second' place' below' start' end')
+      unfolding putRow
+      leaf-and-three p q s = record { stored = same-table (st .ty-stored) (st .own-stored) (st .label-stored) (st .number-stored) p q (st .place-stored) s (st .start-stored) (st .end-stored) }
+
+      pub row-below : {e f : ℤ} → k < lim → e ≡ r .first → f ≡ r .second
+          → Stored lim k r (columns ty own label number first second place below start end) (columns ty' own' label' number' (set first k e) (set second k f) place' (set below k (r .below)) start' end')
+      row-below h p q = leaf-and-three (put-below first h p) (put-below second h q) (put-below below h refl)
+
+      pub row-beyond : lim ≤ k → Stored lim k r (columns ty own label number first second place below start end) (columns ty' own' label' number' first second place' below start' end')
+      row-beyond h = leaf-and-three (put-beyond first (r .first) h) (put-beyond second (r .second) h) (put-beyond below (r .below) h)
+
+      -- and so it is without them, where they are blank and the row has 0 there
+      pub leaf-in-blank : Single r → Blank lim k (columns ty own label number first second place below start end)
+          → Stored lim k r (columns ty own label number first second place below start end) (columns ty' own' label' number' first second place' below start' end')
+      leaf-in-blank z b = leaf-and-three
+          (sym (ap (put lim first k) (z .0) ∙ b .first-blank k (omega arith)))
+          (sym (ap (put lim second k) (z .1) ∙ b .second-blank k (omega arith)))
+          (sym (ap (put lim below k) (z .2) ∙ b .below-blank k (omega arith)))
+
+-- ---- the order of storing does not matter for rows
 
 row-comm : (lim : ℕ) (t : Table) (i j : ℕ) (a b : Row) → (i ≡ j → ⊥) → putRow lim (putRow lim t i a) j b ≡ putRow lim (putRow lim t j b) i a
 unfolding putRow
@@ -69,6 +120,31 @@ puts-append lim t k (a ∷ xs) ys =
     let e : k + suc (length xs) ≡ k + 1 + length xs = omega arith in
     let h : k < k + 1 + length xs = omega arith in
     rw (e, puts-comm lim (puts lim t (k + 1) xs) k (k + 1 + length xs) a ys h, puts-append lim t (k + 1) xs ys)
+
+-- ---- rows leave what comes after them blank
+
+blank-other : {A : Type 0} (lim : ℕ) (l : List A) (k i : ℕ) (a z : A) → k < i → put lim l i z ≡ l → put lim (put lim l k a) i z ≡ put lim l k a
+blank-other lim l k i a z h e =
+    let n : k ≡ i → ⊥ = λ q. omega arith in
+    put-comm lim l k i a z n ∙ rw e
+
+pub blank-later : {lim j k : ℕ} {t : Table} → j ≤ k → Blank lim j t → Blank lim k t
+blank-later h b = record { first-blank = λ i l. b .first-blank i (omega arith); second-blank = λ i l. b .second-blank i (omega arith); below-blank = λ i l. b .below-blank i (omega arith) }
+
+blank-row : {lim j k : ℕ} {t : Table} (r : Row) → k < j → Blank lim j t → Blank lim j (putRow lim t k r)
+unfolding putRow
+blank-row {lim} {j} {k} {t} r h b = record {
+  first-blank = λ i l. blank-other lim (t .first) k i (r .first) (pos 0) (omega arith) (b .first-blank i l);
+  second-blank = λ i l. blank-other lim (t .second) k i (r .second) (pos 0) (omega arith) (b .second-blank i l);
+  below-blank = λ i l. blank-other lim (t .below) k i (r .below) 0 (omega arith) (b .below-blank i l);
+}
+
+pub blank-after : {lim : ℕ} {t : Table} (k : ℕ) (rs : List Row) → Blank lim k t → Blank lim (k + length rs) (puts lim t k rs)
+unfolding puts
+blank-after k [] b = rw add-zero b
+blank-after {lim} {t} k (r ∷ rs) b =
+    let e : k + suc (length rs) ≡ k + 1 + length rs = omega arith in
+    rw e (blank-row r (omega arith) (blank-after (k + 1) rs (blank-later (omega arith) b)))
 
 -- ---- what they come to in each column
 

@@ -20,13 +20,13 @@ use Rattle.decide.specs.Forms.{turn}
 use Rattle.decide.specs.Gates.{nextLow, pastNext, NextAt}
 use Rattle.fill.specs.declared.Step.{Step}
 use Rattle.fill.specs.declared.Step.the-variants.{On, Unread}
-use Rattle.fill.specs.Columns.{Kept, Stored, putRow, puts}
+use Rattle.fill.specs.Columns.{Kept, Stored, putRow, Blank, puts}
 use Rattle.fill.specs.Numbers.{Begins}
 use Rattle.fill.specs.Rows.{nestOf}
 use Rattle.fill.specs.Filling.{Fillable, Within, Fit, closed, Ready, Advanced, FilledValue, FilledElements}
 use Rattle.fill.proofs.Begins.{begins-left, begins-right, moved}
 use Rattle.fill.proofs.Following.{follows, ended}
-use Rattle.fill.proofs.Columns.{kept-same, kept-trans, puts-append}
+use Rattle.fill.proofs.Columns.{kept-same, kept-trans, puts-append, blank-after}
 use Rattle.fill.proofs.Values.{rows-count}
 
 -- the values still to come, of those (cs) that stand from `from` on: what is left to do comes to the same
@@ -36,6 +36,7 @@ pub record Left (o : List ℕ) (lim d : ℕ) (n : Nest) (from base : ℕ) (t₀ 
   pub begun : Begins o at (spellChildren (n .indexed) left)
   pub rows-same : rows + count left ≡ base + count cs
   pub place-same : at + length (spellChildren (n .indexed) left) ≡ from + length (spellChildren (n .indexed) cs)
+  pub blank : Blank lim rows t
   pub table-same : puts lim t rows (rowsFrom (n .indexed) at left) ≡ puts lim t₀ base (rowsFrom (n .indexed) from cs)
 
 -- what a turn of the loop begins with
@@ -46,7 +47,7 @@ pub record Turn (o : List ℕ) (lim d : ℕ) (n : Nest) (from base : ℕ) (t₀ 
   pub apt : low ≤ n .count
   pub room : rows ≤ lim
   pub kept : Kept t t₀
-  pub rest : (cs : Children) → Fillable d n 0 cs → Begins o from (spellChildren (n .indexed) cs) → base + count cs ≤ lim → Left o lim d n from base t₀ cs at low rows t
+  pub rest : (cs : Children) → Fillable d n 0 cs → Begins o from (spellChildren (n .indexed) cs) → base + count cs ≤ lim → Blank lim base t₀ → Left o lim d n from base t₀ cs at low rows t
 
 pub turn-first : {o : List ℕ} {lim d : ℕ} {n : Nest} {from base : ℕ} {t : Table} → Ready o lim from base t → Turn o lim d n from base t from 0 base t
 turn-first r = record {
@@ -56,7 +57,7 @@ turn-first r = record {
   apt = omega arith;
   room = r .below;
   kept = kept-same;
-  rest = λ cs f b l. record { left = cs; fits = f; begun = b; rows-same = refl; place-same = refl; table-same = refl };
+  rest = λ cs f b l z. record { left = cs; fits = f; begun = b; rows-same = refl; place-same = refl; blank = z; table-same = refl };
 }
 
 -- ---- one value and those after it, spelt and as rows
@@ -118,26 +119,26 @@ module _ {o : List ℕ} {lim d : ℕ} {n : Nest} {from base : ℕ} {t₀ : Table
   ends q cs (child j h inner more) f b r p e = absurd (no-value (sym q ∙ next-is d (child j h inner more) f b))
 
   module _ {next j : ℕ} (q : g ≡ Value next j) {r : Step} {t' : Table} (filled : FilledValue o lim (turn (n .form) (n .other) low) j next rows d t r t') where
-    value-is : (d' : ℕ) → d ≡ suc d' → (j' : ℕ) (h : Head) (cs more : Children) → Fillable (suc d') n low (child j' h cs more) → Begins o at (spellChildren (n .indexed) (child j' h cs more)) → rows + count (child j' h cs more) ≤ lim
+    value-is : (d' : ℕ) → d ≡ suc d' → (j' : ℕ) (h : Head) (cs more : Children) → Fillable (suc d') n low (child j' h cs more) → Begins o at (spellChildren (n .indexed) (child j' h cs more)) → rows + count (child j' h cs more) ≤ lim → Blank lim rows t
         → (next ≡ at + length (index (n .indexed) (pos j'))) × (j ≡ j') × (r ≡ On (next + length (spell (value h cs))) (rows + suc (count cs))) × (t' ≡ puts lim t rows (rowsFrom false next (child j h cs empty)))
     unfolding Fillable count
-    value-is d' e j' h cs more f b l =
+    value-is d' e j' h cs more f b l bl =
         let w : Value next j ≡ Value (at + length (index (n .indexed) (pos j'))) j' = sym q ∙ next-is (suc d') (child j' h cs more) f b in
         let b' = begins-right (index (n .indexed) (pos j')) (spell (value h cs) ++ spellChildren (n .indexed) more) (subst (Begins o at) (child-spelt (n .indexed) j' h cs more) b) in
         let fit : Fit d (turn (n .form) (n .other) low) h cs = record { stands = f .1; carried = f .2; good = f .3; dated = f .4; within = subst (λ (y : ℕ). Within y (nestOf h cs) cs) (sym e) (f .5) } in
-        let s = filled .same h cs fit (moved (following-place w) (begins-left (spell (value h cs)) (spellChildren (n .indexed) more) b')) (omega arith) in
+        let s = filled .same h cs fit (moved (following-place w) (begins-left (spell (value h cs)) (spellChildren (n .indexed) more) b')) (omega arith) bl in
         (following-place w, following-label w, s .0, s .1)
 
     abbrev Step-on : ℕ → ℕ → Children → Type 0
     Step-on at₂ rows₂ left = (more : Children) × Fillable d n (nextLow (n .indexed) j low) more × Begins o at₂ (spellChildren (n .indexed) more) × (rows₂ + count more ≡ rows + count left)
-        × (at₂ + length (spellChildren (n .indexed) more) ≡ at + length (spellChildren (n .indexed) left)) × (puts lim t' rows₂ (rowsFrom (n .indexed) at₂ more) ≡ puts lim t rows (rowsFrom (n .indexed) at left))
+        × (at₂ + length (spellChildren (n .indexed) more) ≡ at + length (spellChildren (n .indexed) left)) × Blank lim rows₂ t' × (puts lim t' rows₂ (rowsFrom (n .indexed) at₂ more) ≡ puts lim t rows (rowsFrom (n .indexed) at left))
 
-    step-on : {at₂ rows₂ : ℕ} → r ≡ On at₂ rows₂ → (d' : ℕ) → d' ≡ d → (left : Children) → Fillable d' n low left → Begins o at (spellChildren (n .indexed) left) → rows + count left ≤ lim → Step-on at₂ rows₂ left
+    step-on : {at₂ rows₂ : ℕ} → r ≡ On at₂ rows₂ → (d' : ℕ) → d' ≡ d → (left : Children) → Fillable d' n low left → Begins o at (spellChildren (n .indexed) left) → rows + count left ≤ lim → Blank lim rows t → Step-on at₂ rows₂ left
     unfolding Fillable count
-    step-on z d' e empty f b l = absurd (no-value (sym (next-is d' empty f b) ∙ q))
-    step-on z zero e (child j' h cs more) f b l = absurd f
-    step-on {at₂} {rows₂} z (suc d') e (child j' h cs more) f b l =
-        let v = value-is d' (sym e) j' h cs more f b l in
+    step-on z d' e empty f b l bl = absurd (no-value (sym (next-is d' empty f b) ∙ q))
+    step-on z zero e (child j' h cs more) f b l bl = absurd f
+    step-on {at₂} {rows₂} z (suc d') e (child j' h cs more) f b l bl =
+        let v = value-is d' (sym e) j' h cs more f b l bl in
         let place : at₂ ≡ next + length (spell (value h cs)) = on-next (sym z ∙ v .2) in
         let row : rows₂ ≡ rows + suc (count cs) = on-rows (sym z ∙ v .2) in
         let b' = begins-right (spell (value h cs)) (spellChildren (n .indexed) more) (begins-right (index (n .indexed) (pos j')) (spell (value h cs) ++ spellChildren (n .indexed) more) (subst (Begins o at) (child-spelt (n .indexed) j' h cs more) b)) in
@@ -147,15 +148,16 @@ module _ {o : List ℕ} {lim d : ℕ} {n : Nest} {from base : ℕ} {t₀ : Table
           moved (place ∙ ap (λ (y : ℕ). y + length (spell (value h cs))) (v .0)) b',
           omega arith,
           omega (arith, child-long (n .indexed) j' h cs more, v .0),
+          rw (v .3, long) (blank-after rows (rowsFrom false next (child j h cs empty)) bl),
           ap₂ (λ (u : Table) (y : ℕ). puts lim u y (rowsFrom (n .indexed) at₂ more)) (v .3) long ∙ puts-append lim t rows (rowsFrom false next (child j h cs empty)) (rowsFrom (n .indexed) at₂ more)
               ∙ ap (puts lim t rows) (ap₂ (λ (y z : ℕ). rowsFrom false next (child y h cs empty) ++ rowsFrom (n .indexed) z more) (v .1) place ∙ sym (child-rows (n .indexed) at next j' h cs more (v .0))),
         )
 
-    stop-on : r ≡ Unread → (d' : ℕ) → d' ≡ d → (left : Children) → Fillable d' n low left → Begins o at (spellChildren (n .indexed) left) → rows + count left ≤ lim → ⊥
+    stop-on : r ≡ Unread → (d' : ℕ) → d' ≡ d → (left : Children) → Fillable d' n low left → Begins o at (spellChildren (n .indexed) left) → rows + count left ≤ lim → Blank lim rows t → ⊥
     unfolding Fillable
-    stop-on z d' e empty f b l = no-value (sym (next-is d' empty f b) ∙ q)
-    stop-on z zero e (child j' h cs more) f b l = f
-    stop-on z (suc d') e (child j' h cs more) f b l = no-step (sym z ∙ value-is d' (sym e) j' h cs more f b l .2)
+    stop-on z d' e empty f b l bl = no-value (sym (next-is d' empty f b) ∙ q)
+    stop-on z zero e (child j' h cs more) f b l bl = f
+    stop-on z (suc d') e (child j' h cs more) f b l bl = no-step (sym z ∙ value-is d' (sym e) j' h cs more f b l bl .2)
 
     past : pastNext o (n .indexed) (n .count) low at (Value next j)
     past = subst (pastNext o (n .indexed) (n .count) low at) q (follow .past)
@@ -173,29 +175,30 @@ module _ {o : List ℕ} {lim d : ℕ} {n : Nest} {from base : ℕ} {t₀ : Table
           apt = past .3;
           room = v .3;
           kept = kept-trans ks (tn .kept);
-          rest = λ cs f b l.
-              let lf = tn .rest cs f b l in
-              let s = step-on z d refl (lf .left) (lf .fits) (lf .begun) (omega (arith, lf .rows-same)) in
+          rest = λ cs f b l bl.
+              let lf = tn .rest cs f b l bl in
+              let s = step-on z d refl (lf .left) (lf .fits) (lf .begun) (omega (arith, lf .rows-same)) (lf .blank) in
               record {
                 left = s .0;
                 fits = s .1;
                 begun = s .2;
                 rows-same = s .3 ∙ lf .rows-same;
                 place-same = s .4 ∙ lf .place-same;
-                table-same = s .5 ∙ lf .table-same;
+                blank = s .5;
+                table-same = s .6 ∙ lf .table-same;
               };
         }
 
     pub elements-stop : {row : Row} {k : ℕ} → from ≡ row .end → r ≡ Unread → FilledElements o lim row n k base d t₀ Unread t'
     elements-stop e z = record {
       advanced = tt;
-      same = λ cs f b l. let lf = tn .rest cs f (moved e b) l in absurd (stop-on z d refl (lf .left) (lf .fits) (lf .begun) (omega (arith, lf .rows-same)));
+      same = λ cs f b l bl. let lf = tn .rest cs f (moved e b) l bl in absurd (stop-on z d refl (lf .left) (lf .fits) (lf .begun) (omega (arith, lf .rows-same)) (lf .blank));
     }
 
   pub elements-unread : {y : Refusal} {row : Row} {k : ℕ} → from ≡ row .end → g ≡ Halt y → FilledElements o lim row n k base d t₀ Unread t
   elements-unread e z = record {
     advanced = tt;
-    same = λ cs f b l. let lf = tn .rest cs f (moved e b) l in absurd (no-next (sym z) (n .indexed) at (lf .left) (next-is d (lf .left) (lf .fits) (lf .begun)));
+    same = λ cs f b l bl. let lf = tn .rest cs f (moved e b) l bl in absurd (no-next (sym z) (n .indexed) at (lf .left) (next-is d (lf .left) (lf .fits) (lf .begun)));
   }
 
   pub elements-end : {row : Row} {k next : ℕ} {t' : Table} → from ≡ row .end → g ≡ End next → Stored lim k (closed row (rows - base) next) t t' → FilledElements o lim row n k base d t₀ (On next rows) t'
@@ -203,8 +206,8 @@ module _ {o : List ℕ} {lim d : ℕ} {n : Nest} {from base : ℕ} {t₀ : Table
       let p = subst (pastNext o (n .indexed) (n .count) low at) z (follow .past) in
       record {
         advanced = (omega (arith, tn .past, p .0, e), p .1, omega (arith, tn .steps), tn .room);
-        same = λ cs f b l.
-            let lf = tn .rest cs f (moved e b) l in
+        same = λ cs f b l bl.
+            let lf = tn .rest cs f (moved e b) l bl in
             let w = ends z cs (lf .left) (lf .fits) (lf .begun) (lf .rows-same) (lf .place-same) (lf .table-same) in
             let below : rows - base ≡ count cs = omega (arith, w .0) in
             let last : next ≡ row .end + length (spellChildren (n .indexed) cs) = w .1 ∙ ap (λ (y : ℕ). y + length (spellChildren (n .indexed) cs)) e in

@@ -126,7 +126,7 @@ module _ {o : List ℕ} {at : ℕ} (inside : at ≤ length o) (k : Kind) (e₁ :
       by : (y : Numbered) → x ≡ y → DataAt o k at (leafOf y)
       by Missing q = data-unnumbered k (element-none e₁ inside) refl (element-none e₂ inside) refl number q
       by (Number next z) q = let p = number-past number q in record {
-        past = (p .0, p .1, omega arith);
+        past = ((p .0, p .1, omega arith), refl, refl);
         same = λ h cs g d b b'. ap Leaf (fore-bare k (element-none e₁ inside) refl (element-none e₂ inside) refl number q e₃ h g b) ∙ ap (λ (y : Holds). dataWith y (foreOf k h at) (nestBy k (k .holds) h cs)) (sym e₄);
       }
 
@@ -159,7 +159,7 @@ module _ {o : List ℕ} {at : ℕ} (inside : at ≤ length o) {x : Amount} (amou
 
     pub text-leaf : n ≤ length o - next → (chars : Bool) → DataAt o (string (textOf chars)) at (Leaf (foreWith (pos 0) (pos 0) (toZ w64 n) next (next + n)))
     text-leaf l chars = let p = amount-past amounts q in rw (amount-held amounts q) record {
-      past = (omega arith, omega arith, p .1);
+      past = ((omega arith, omega arith, p .1), refl, refl);
       same = λ h cs g d b b'.
           ap Leaf (sym (rw (text-there chars, contents-long chars h g b)) ∙ fore-same (string (textOf chars)) (element-none refl inside) refl (element-none refl inside) refl (amount-found amounts q) refl h g b);
     }

@@ -6,6 +6,7 @@ pub mod Classes
 pub mod Following
 pub mod Rows
 pub mod Columns
+pub mod Cleared
 pub mod Values
 pub mod Elements
 pub mod Bounds

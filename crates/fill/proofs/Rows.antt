@@ -40,7 +40,7 @@ pub typed-past : {o : List ℕ} {form : Form} {at : ℕ} {x : Typed} {from : ℕ
 typed-past {o} {at = at} x q = subst (pastTyped o at) q (x .past)
 
 pub leaf-past : {o : List ℕ} {t : ℤ} {at : ℕ} {x : Data} {f : Fore} → DataOf o t at x → x ≡ Leaf f → pastFore o at f
-leaf-past {o} {at = at} x q = subst (pastData o at) q (x .past)
+leaf-past {o} {at = at} x q = subst (pastData o at) q (x .past) .0
 
 pub holder-past : {o : List ℕ} {t : ℤ} {at : ℕ} {x : Data} {f : Fore} {n : Nest} → DataOf o t at x → x ≡ Holder f n → pastFore o at f
 holder-past {o} {at = at} x q = subst (pastData o at) q (x .past) .0
@@ -103,7 +103,7 @@ module _ {o : List ℕ} {form : Form} {at : ℕ} {x : Typed} (typed : TypedAt o 
   }
     where
       by : (u : Data) → pastData o from u → pastFound o at (rowed (λ f. rowWith t' (ownOf form) i f at) u)
-      by (Leaf f) p = let a = typed-past typed q in (omega arith, p .1)
+      by (Leaf f) p = let a = typed-past typed q in (omega (arith, p .0 .0), p .0 .1, (p .1, p .2, refl))
       by (Holder f n) p = let a = typed-past typed q in (omega arith, p .0 .1, p .1)
       by Unread p = tt
 

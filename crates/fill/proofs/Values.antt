@@ -20,12 +20,13 @@ use Rattle.fill.specs.declared.Found.{Found}
 use Rattle.fill.specs.declared.Found.the-variants.{Leaf, Holder, Unread as NoRow}
 use Rattle.fill.specs.declared.Step.{Step}
 use Rattle.fill.specs.declared.Step.the-variants.{On, Unread}
-use Rattle.fill.specs.Columns.{Stored, putRow, puts}
+use Rattle.fill.specs.Columns.{Stored, putRow, Blank, puts}
 use Rattle.fill.specs.Numbers.{Begins}
 use Rattle.decide.specs.Forms.{nestWith}
-use Rattle.fill.specs.Rows.{nestBy, nestOf, foundBy, frontRow, pastFound, RowAt}
+use Rattle.fill.specs.Rows.{nestBy, nestOf, foundBy, frontRow, Single, pastFound, RowAt}
 use Rattle.fill.specs.Filling.{Fillable, Within, Fit, closed, Advanced, FilledValue, FilledElements}
 use Rattle.fill.proofs.Begins.{begins-left, begins-right, moved}
+use Rattle.fill.proofs.Columns.{blank-later}
 
 -- ---- rows and spelling, by what the code keeps of a container
 
@@ -130,33 +131,33 @@ module _ {o : List ℕ} {form : Form} {i at : ℕ} {x : Found} (row-at : RowAt o
 
   module _ {lim k d : ℕ} {t : Table} where
     pub value-unread : x ≡ NoRow → FilledValue o lim form i at k d t Unread t
-    value-unread q = record { advanced = tt; same = λ h cs f b r. absurd (never-unread (kindOf (h .ty) .holds) (nestOf h cs) (frontRow i h at) (sym (accepted h cs f b) ∙ q)) }
+    value-unread q = record { advanced = tt; same = λ h cs f b r z. absurd (never-unread (kindOf (h .ty) .holds) (nestOf h cs) (frontRow i h at) (sym (accepted h cs f b) ∙ q)) }
 
-    pub value-leaf : {row : Row} {t' : Table} → x ≡ Leaf row → k < lim → Stored lim k row t t' → FilledValue o lim form i at k d t (On (row .end) (k + 1)) t'
+    pub value-leaf : {row : Row} {t' : Table} → x ≡ Leaf row → k < lim → (Single row → Blank lim k t → Stored lim k row t t') → FilledValue o lim form i at k d t (On (row .end) (k + 1)) t'
     value-leaf {row} {t'} q l st = let p = subst (pastFound o at) q (row-at .past) in record {
       advanced = (p .0, p .1, omega arith, omega arith);
-      same = λ h cs f b r.
+      same = λ h cs f b r z.
           let w = leaf-is (kindOf (h .ty) .holds) (nestOf h cs) (sym (accepted h cs f b) ∙ q) in
           let e : cs ≡ empty = leaf-empty d h cs (w .0) (f .within) in
-          subst (λ (y : Children). (On (row .end) (k + 1) ≡ On (at + length (spell (value h y))) (k + suc (count y))) × (t' ≡ puts lim t k (rowsFrom false at (child i h y empty)))) (sym e) (filled h (w .0) (w .1));
+          subst (λ (y : Children). (On (row .end) (k + 1) ≡ On (at + length (spell (value h y))) (k + suc (count y))) × (t' ≡ puts lim t k (rowsFrom false at (child i h y empty)))) (sym e) (filled h (w .0) (w .1) (st (p .2) z));
     }
       where
-        filled : (h : Head) → kindOf (h .ty) .holds ≡ nothing → frontRow i h at ≡ row → (On (row .end) (k + 1) ≡ On (at + length (spell (value h empty))) (k + suc (count empty))) × (t' ≡ puts lim t k (rowsFrom false at (child i h empty empty)))
-        filled h e z = (ap₂ On (sym (ap (λ (m : Row). m .end) z) ∙ ap (λ (l : List ℕ). at + length l) (sym (leaf-spelt h e))) (one-more k), st .stored ∙ ap (putRow lim t k) (sym z) ∙ one-put lim k t (frontRow i h at) ∙ ap (puts lim t k) (sym (leaf-rows i at h e)))
+        filled : (h : Head) → kindOf (h .ty) .holds ≡ nothing → frontRow i h at ≡ row → Stored lim k row t t' → (On (row .end) (k + 1) ≡ On (at + length (spell (value h empty))) (k + suc (count empty))) × (t' ≡ puts lim t k (rowsFrom false at (child i h empty empty)))
+        filled h e z st = (ap₂ On (sym (ap (λ (m : Row). m .end) z) ∙ ap (λ (l : List ℕ). at + length l) (sym (leaf-spelt h e))) (one-more k), st .stored ∙ ap (putRow lim t k) (sym z) ∙ one-put lim k t (frontRow i h at) ∙ ap (puts lim t k) (sym (leaf-rows i at h e)))
 
     pub value-deep : {row : Row} {n : Nest} → x ≡ Holder row n → d ≡ 0 → FilledValue o lim form i at k d t Unread t
-    value-deep q e = record { advanced = tt; same = λ h cs f b r. absurd (subst (λ (y : ℕ). Within y (nestOf h cs) cs) e (f .within)) }
+    value-deep q e = record { advanced = tt; same = λ h cs f b r z. absurd (subst (λ (y : ℕ). Within y (nestOf h cs) cs) e (f .within)) }
 
     pub value-holder : {row : Row} {n : Nest} {r : Step} {t' : Table} → x ≡ Holder row n → (d ≡ 0 → ⊥) → FilledElements o lim row n k (k + 1) (d - 1) t r t' → FilledValue o lim form i at k d t r t'
     value-holder {row} {n} {r} {t'} q g el = record {
       advanced = by r (el .advanced);
-      same = λ h cs f b m.
+      same = λ h cs f b m z.
           let w = holder-is (kindOf (h .ty) .holds) (nestOf h cs) (sym (accepted h cs f b) ∙ q) in
           let dd : d ≡ suc (d - 1) = omega arith in
           let fits : Fillable (d - 1) n 0 cs = subst (λ (y : Nest). Fillable (d - 1) y 0 cs) (w .1) (subst (λ (y : ℕ). Within y (nestOf h cs) cs) dd (f .within)) in
           let start : row .end ≡ at + length (fore h) = sym (ap (λ (y : Row). y .end) (w .0)) in
           let rest : Begins o (row .end) (spellChildren (n .indexed) cs) = moved start (subst (λ (y : Nest). Begins o (at + length (fore h)) (spellChildren (y .indexed) cs)) (w .1) (begins-right (fore h) (spellChildren (nestOf h cs .indexed) cs) (subst (Begins o at) (spell-is h cs) b))) in
-          let s = el .same cs fits rest (omega arith) in
+          let s = el .same cs fits rest (omega arith) (blank-later (omega arith) z) in
           let long : row .end + length (spellChildren (n .indexed) cs) ≡ at + length (spell (value h cs)) = ap₂ (λ (a : ℕ) (y : Nest). a + length (spellChildren (y .indexed) cs)) start (sym (w .1)) ∙ sym (spell-long h cs at) in
           (s .0 ∙ ap₂ On long (omega arith), s .1 ∙ whole h cs (w .0) (w .1));
     }
@@ -170,4 +171,4 @@ module _ {o : List ℕ} {form : Form} {i at : ℕ} {x : Found} (row-at : RowAt o
         whole h cs a b = rw (← a, ← b) (more-put lim k t (closed (frontRow i h at) (count cs) (at + length (fore h) + length (spellChildren (nestOf h cs .indexed) cs))) (rowsFrom (nestOf h cs .indexed) (at + length (fore h)) cs) ∙ ap (puts lim t k) (sym (value-rows i at h cs)))
 
 pub value-crowded : {o : List ℕ} {lim : ℕ} {form : Form} {i at k d : ℕ} {t : Table} → lim ≤ k → FilledValue o lim form i at k d t Unread t
-value-crowded l = record { advanced = tt; same = λ h cs f b r. absurd (omega arith) }
+value-crowded l = record { advanced = tt; same = λ h cs f b r z. absurd (omega arith) }

@@ -17,7 +17,7 @@ use Rattle.decide.specs.Forms.{turn}
 use Rattle.decide.specs.Gates.{nextLow}
 use Rattle.fill.specs.declared.Step.{Step}
 use Rattle.fill.specs.declared.Step.the-variants.{On, Unread}
-use Rattle.fill.specs.Columns.{Roomy, putRow, puts, Filled}
+use Rattle.fill.specs.Columns.{Roomy, putRow, Blank, puts, Filled}
 use Rattle.fill.specs.Numbers.{Begins, Stands}
 use Rattle.fill.specs.Rows.{nestOf, Dated, Follows, Ended}
 
@@ -60,16 +60,16 @@ Advanced o lim at k Unread = Unit {0}
 -- a value with label i, from `at` on: its rows stand from k on
 pub record FilledValue (o : List ℕ) (lim : ℕ) (form : Form) (i at k d : ℕ) (t : Table) (r : Step) (t' : Table) : Type 0 where
   pub advanced : Advanced o lim at (suc k) r
-  pub same : (h : Head) (cs : Children) → Fit d form h cs → Begins o at (spell (value h cs)) → k + suc (count cs) ≤ lim
+  pub same : (h : Head) (cs : Children) → Fit d form h cs → Begins o at (spell (value h cs)) → k + suc (count cs) ≤ lim → Blank lim k t
       → (r ≡ On (at + length (spell (value h cs))) (k + suc (count cs))) × (t' ≡ puts lim t k (rowsFrom false at (child i h cs empty)))
 
 -- the values of a container whose row, up to them, is given and belongs at k: their rows stand from `base` on
 pub record FilledElements (o : List ℕ) (lim : ℕ) (row : Row) (n : Nest) (k base d : ℕ) (t : Table) (r : Step) (t' : Table) : Type 0 where
   pub advanced : Advanced o lim (row .end) base r
-  pub same : (cs : Children) → Fillable d n 0 cs → Begins o (row .end) (spellChildren (n .indexed) cs) → base + count cs ≤ lim
+  pub same : (cs : Children) → Fillable d n 0 cs → Begins o (row .end) (spellChildren (n .indexed) cs) → base + count cs ≤ lim → Blank lim base t
       → (r ≡ On (row .end + length (spellChildren (n .indexed) cs)) (base + count cs))
       × (t' ≡ putRow lim (puts lim t base (rowsFrom (n .indexed) (row .end) cs)) k (closed row (count cs) (row .end + length (spellChildren (n .indexed) cs))))
 
--- the rows of an accepted message stand in the columns, from the first row on, and all else is as it was
+-- the rows of an accepted message, as many as lim, stand in the columns, from the first row on, and all else is as it was
 pub record FilledIn (o : List ℕ) (lim : ℕ) (t t' : Table) : Type 0 where
-  pub same : (v : Value) → Valid v → o ≡ spell v → length (rows v) ≤ lim → Filled 0 (rows v) t t'
+  pub same : (v : Value) → Valid v → o ≡ spell v → length (rows v) ≡ lim → Filled 0 (rows v) t t'

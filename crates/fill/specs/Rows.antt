@@ -80,7 +80,7 @@ abbrev pub pastFore : List ℕ → ℕ → Fore → Type 0
 pastFore o at f = (at ≤ f .end) × (f .end ≤ length o) × (f .place ≤ length o)
 
 abbrev pub pastData : List ℕ → ℕ → Data → Type 0
-pastData o at (Leaf f) = pastFore o at f
+pastData o at (Leaf f) = pastFore o at f × (f .first ≡ pos 0) × (f .second ≡ pos 0)
 pastData o at (Holder f n) = pastFore o at f × (n .count < 2 ^ 32)
 pastData o at Unread = Unit {0}
 
@@ -112,8 +112,12 @@ foundBy properties r n = HolderRow r n
 foundBy one r n = HolderRow r n
 foundBy (parts d) r n = HolderRow r n
 
+-- a row without element types and rows below
+abbrev pub Single : Row → Type 0
+Single r = (r .first ≡ pos 0) × (r .second ≡ pos 0) × (r .below ≡ 0)
+
 abbrev pub pastFound : List ℕ → ℕ → Found → Type 0
-pastFound o at (LeafRow r) = (at ≤ r .end) × (r .end ≤ length o)
+pastFound o at (LeafRow r) = (at ≤ r .end) × (r .end ≤ length o) × Single r
 pastFound o at (HolderRow r n) = (at ≤ r .end) × (r .end ≤ length o) × (n .count < 2 ^ 32)
 pastFound o at NoRow = Unit {0}
 

@@ -8,7 +8,7 @@ ghost use Rattle.scalar.specs.declared.Bits.{Bits};
 ghost use Rattle.scalar.specs.Answers.{Size, widthOf};
 ghost use Rattle.scalar.specs.Moments.{partsOf};
 ghost use Rattle.decide.specs.Classes.{holdsOf, textOf};
-ghost use Rattle.fill.specs.Columns.{columns, Roomy, Stored};
+ghost use Rattle.fill.specs.Columns.{columns, Roomy, Stored, cleared, seven, LeafRoom, LeafStored};
 ghost use Rattle.fill.specs.Numbers.{NumberAt, Implied};
 ghost use Rattle.fill.specs.Rows.{foreWith, leafOf, DataAt, DataOf, rowWith, RowAt};
 ghost use Rattle.fill.specs.Filling.{closed, Ready, FilledValue, FilledElements, FilledIn};
@@ -26,7 +26,62 @@ use scalar::Coded;
 use scalar::Moment;
 use scalar::Which;
 
-// Stores a row in the columns, if its place is below the limit. No other function stores in them.
+// ---- Columns ----
+
+// 0 in the first n rows of a column of types.
+fn clear_types(col: &mut [i32], n: usize)
+    requires { ⌜ n ≤ length (now col) ⌝ }
+    ensures { λ _. ⌜ now (col .exit) ≡ cleared n (pos 0) (now (col .entry)) ⌝ }
+{
+    let mut i: usize = 0;
+    while i < n {
+        col[i] = 0;
+        i += 1;
+    }
+}
+
+// 0 in the first n rows of a column of counts.
+fn clear_counts(col: &mut [u32], n: usize)
+    requires { ⌜ n ≤ length (now col) ⌝ }
+    ensures { λ _. ⌜ now (col .exit) ≡ cleared n 0 (now (col .entry)) ⌝ }
+{
+    let mut i: usize = 0;
+    while i < n {
+        col[i] = 0;
+        i += 1;
+    }
+}
+
+// Stores a row in seven columns, if its place is below the limit. In the other three only containers have more than the 0 that stands there.
+fn put_leaf(
+    ty: &mut [i32],
+    own: &mut [u8],
+    label: &mut [u32],
+    number: &mut [i64],
+    place: &mut [u32],
+    start: &mut [u32],
+    end: &mut [u32],
+    lim: usize,
+    k: usize,
+    r: Row,
+)
+    requires { ⌜ LeafRoom lim (seven (now ty) (now own) (now label) (now number) (now place) (now start) (now end)) ⌝ }
+    ensures { λ _. ⌜ LeafStored lim k r (seven (now (ty .entry)) (now (own .entry)) (now (label .entry)) (now (number .entry)) (now (place .entry)) (now (start .entry)) (now (end .entry))) (seven (now (ty .exit)) (now (own .exit)) (now (label .exit)) (now (number .exit)) (now (place .exit)) (now (start .exit)) (now (end .exit))) ⌝ }
+{
+    if k < lim {
+        let ty_now = r.ty;
+        ty[k] = ty_now;
+        own[k] = r.own;
+        label[k] = r.label;
+        let number_now = r.number;
+        number[k] = number_now;
+        place[k] = r.place;
+        start[k] = r.start;
+        end[k] = r.end;
+    }
+}
+
+// Stores a row in the columns, if its place is below the limit.
 fn put_row(
     ty: &mut [i32],
     own: &mut [u8],
@@ -45,21 +100,13 @@ fn put_row(
     requires { ⌜ Roomy lim (columns (now ty) (now own) (now label) (now number) (now first) (now second) (now place) (now below) (now start) (now end)) ⌝ }
     ensures { λ _. ⌜ Stored lim k r (columns (now (ty .entry)) (now (own .entry)) (now (label .entry)) (now (number .entry)) (now (first .entry)) (now (second .entry)) (now (place .entry)) (now (below .entry)) (now (start .entry)) (now (end .entry))) (columns (now (ty .exit)) (now (own .exit)) (now (label .exit)) (now (number .exit)) (now (first .exit)) (now (second .exit)) (now (place .exit)) (now (below .exit)) (now (start .exit)) (now (end .exit))) ⌝ }
 {
+    put_leaf(ty, own, label, number, place, start, end, lim, k, r);
     if k < lim {
-        let ty_now = r.ty;
-        ty[k] = ty_now;
-        own[k] = r.own;
-        label[k] = r.label;
-        let number_now = r.number;
-        number[k] = number_now;
         let first_now = r.first;
         first[k] = first_now;
         let second_now = r.second;
         second[k] = second_now;
-        place[k] = r.place;
         below[k] = r.below;
-        start[k] = r.start;
-        end[k] = r.end;
     }
 }
 
@@ -368,21 +415,7 @@ fn fill_value(
         Found::Unread => Step::Unread,
         Found::Leaf(row) => {
             let past = row.end;
-            put_row(
-                ty,
-                own,
-                label,
-                number,
-                first,
-                second,
-                place,
-                below,
-                start,
-                end,
-                lim,
-                k,
-                row,
-            );
+            put_leaf(ty, own, label, number, place, start, end, lim, k, row);
             Step::On(past as usize, k + 1)
         }
         Found::Holder(row, nest) => {
@@ -390,7 +423,7 @@ fn fill_value(
                 return Step::Unread;
             }
             fill_elements(
-                src,
+                &*src,
                 ty,
                 own,
                 label,
@@ -514,6 +547,9 @@ pub fn fill(
     requires { ⌜ Ready (now src) lim 0 0 (columns (now ty) (now own) (now label) (now number) (now first) (now second) (now place) (now below) (now start) (now end)) ⌝ }
     ensures { λ _. ⌜ FilledIn (now (src .entry)) lim (columns (now (ty .entry)) (now (own .entry)) (now (label .entry)) (now (number .entry)) (now (first .entry)) (now (second .entry)) (now (place .entry)) (now (below .entry)) (now (start .entry)) (now (end .entry))) (columns (now (ty .exit)) (now (own .exit)) (now (label .exit)) (now (number .exit)) (now (first .exit)) (now (second .exit)) (now (place .exit)) (now (below .exit)) (now (start .exit)) (now (end .exit))) ⌝ }
 {
+    clear_types(first, lim);
+    clear_types(second, lim);
+    clear_counts(below, lim);
     let row = Row {
         ty: 0,
         own: 0,

@@ -77,7 +77,7 @@ pub no-room : {o : List ℕ} {n m : ℕ} {t : Table} → m ≡ shortest t → m 
 no-room {o} {n} {m} {t} e h = record { stored = λ v g s k. (within-by (shortest t) (rows v) false k (lt-leb n (shortest t) (subst (λ (m : ℕ). m < n) e h)), refl) }
 
 pub stored : {o : List ℕ} {n m : ℕ} {t t' : Table} → m ≡ shortest t → n ≤ m → FilledIn o n t t' → RowsStored o n t true t'
-stored {o} {n} {m} {t} e h f = record { stored = λ v g s k. (within-by (shortest t) (rows v) true k (le-leb n (shortest t) (subst (λ (m : ℕ). n ≤ m) e h)), f .same v g s (omega (arith, k))) }
+stored {o} {n} {m} {t} e h f = record { stored = λ v g s k. (within-by (shortest t) (rows v) true k (le-leb n (shortest t) (subst (λ (m : ℕ). n ≤ m) e h)), f .same v g s (sym k)) }
 
 -- ---- reading
 

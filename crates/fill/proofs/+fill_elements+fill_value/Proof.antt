@@ -2,7 +2,7 @@ use borrow.Author.Needs.{needs}
 use Prim.Native.Nat.{_+_, _-_, _*_}
 use mathlib.Core.Path.{refl, _∙_}
 use Rattle.fill.specs.Columns.{columns}
-use Rattle.fill.proofs.Columns.{roomy}
+use Rattle.fill.proofs.Columns.{roomy, leaf-room, leaf-in-blank}
 use Rattle.fill.proofs.Values.{value-crowded, value-unread, value-leaf, value-deep, value-holder}
 use Rattle.fill.proofs.Elements.{Turn, turn-first, turn-less, turn-again, elements-unread, elements-end, elements-stop}
 use Rattle.fill.proofs.Bounds.{leaf-end, rises, sinks, take-one, one-row, holder-ready, stored-as, turned, turn-ends, turn-ready, turn-low, turn-more}
@@ -19,6 +19,7 @@ use Rattle.decide.proofs.low_after.Reads as low-after-reads
 use Rattle.decide.proofs.next_at.Reads as next-at-reads
 use Rattle.decide.proofs.turn_of.Reads as turn-of-reads
 use Rattle.fill.proofs.closed_row.Reads as closed-row-reads
+use Rattle.fill.proofs.put_leaf.Reads as put-leaf-reads
 use Rattle.fill.proofs.put_row.Reads as put-row-reads
 use Rattle.fill.proofs.row_at.Reads as row-at-reads
 use Rattle.fill.proofs.+fill_elements+fill_value.{statement}
@@ -66,7 +67,7 @@ abbrev fill-elements-claims : ℕ → fill-elements-lts.Claims
 fill-elements-claims t = (next-at-reads.Asked, next-at-reads.Learnt, closed-row-reads.Asked, closed-row-reads.Learnt, put-row-reads.Asked, put-row-reads.Learnt, turn-of-reads.Asked, turn-of-reads.Learnt, fill-value-below t, fill-value.Post, low-after-reads.Asked, low-after-reads.Learnt)
 
 abbrev fill-value-claims : ℕ → fill-value-lts.Claims
-fill-value-claims t = (row-at-reads.Asked, row-at-reads.Learnt, put-row-reads.Asked, put-row-reads.Learnt, fill-elements-below t, fill-elements.Post)
+fill-value-claims t = (row-at-reads.Asked, row-at-reads.Learnt, put-leaf-reads.Asked, put-leaf-reads.Learnt, fill-elements-below t, fill-elements.Post)
 
 fill-elements-cast-at : (t : ℕ) → fill-elements-lts.Need-cast-at (fill-elements-claims t) (fill-elements-at t) fill-elements.Post fill-elements-Inv-loop fill-elements-μ-loop
 fill-elements-cast-at t c = search needs
@@ -227,14 +228,14 @@ fill-value-enum-told t c = c .match .keys1
 fill-value-enum-known-row : (t : ℕ) → fill-value-lts.Need-enum-known-row (fill-value-claims t) (fill-value-at t) fill-value.Post
 fill-value-enum-known-row t c = c .match .keys2
 
-fill-value-put-row-requires : (t : ℕ) → fill-value-lts.Need-put-row-requires (fill-value-claims t) (fill-value-at t) fill-value.Post
-fill-value-put-row-requires t c κs = c .before .before .before .before .before .before .before .before .before .before .before .before .before .before .before .before .before .before .before .before .before .before .pre .1 .room
+fill-value-put-leaf-requires : (t : ℕ) → fill-value-lts.Need-put-leaf-requires (fill-value-claims t) (fill-value-at t) fill-value.Post
+fill-value-put-leaf-requires t c κs = leaf-room (c .before .before .before .before .before .before .before .before .before .before .before .before .before .before .before .before .before .before .before .pre .1 .room)
 
-fill-value-cast-t46 : (t : ℕ) → fill-value-lts.Need-cast-t46 (fill-value-claims t) (fill-value-at t) fill-value.Post
-fill-value-cast-t46 t c = record { fits = leaf-end (c .before .before .before .before .before .before .before .before .before .before .before .before .before .before .before .before .before .before .before .before .before .before .before .before .before .before .before .before .before .before .row-at .ensures) (c .before .before .before .before .before .before .before .before .before .before .before .before .before .before .before .before .before .before .before .before .before .before .before .before .before .before .before .before .row .given .1) (c .before .before .before .before .before .before .before .before .before .before .before .before .before .before .before .before .before .before .before .before .before .before .before .before .before .before .before .before .before .before .before .before .before .before .before .before .before .before .before .pre .1) }
+fill-value-cast-t40 : (t : ℕ) → fill-value-lts.Need-cast-t40 (fill-value-claims t) (fill-value-at t) fill-value.Post
+fill-value-cast-t40 t c = record { fits = leaf-end (c .before .before .before .before .before .before .before .before .before .before .before .before .before .before .before .before .before .before .before .before .before .before .before .row-at .ensures) (c .before .before .before .before .before .before .before .before .before .before .before .before .before .before .before .before .before .before .before .before .before .row .given .1) (c .before .before .before .before .before .before .before .before .before .before .before .before .before .before .before .before .before .before .before .before .before .before .before .before .before .before .before .before .before .before .before .before .pre .1) }
 
-fill-value-add-t47 : (t : ℕ) → fill-value-lts.Need-add-t47 (fill-value-claims t) (fill-value-at t) fill-value.Post
-fill-value-add-t47 t c = record { fits = one-row (c .before .before .before .before .before .before .before .before .before .before .before .before .before .before .before .before .before .before .before .before .before .before .before .before .before .before .before .before .before .before .before .before .before .before .before .before .before .before .before .pre .1) }
+fill-value-add-t41 : (t : ℕ) → fill-value-lts.Need-add-t41 (fill-value-claims t) (fill-value-at t) fill-value.Post
+fill-value-add-t41 t c = record { fits = one-row (c .before .before .before .before .before .before .before .before .before .before .before .before .before .before .before .before .before .before .before .before .before .before .before .before .before .before .before .before .before .before .before .before .pre .1) }
 
 fill-value-enum-known-row-2 : (t : ℕ) → fill-value-lts.Need-enum-known-row-2 (fill-value-claims t) (fill-value-at t) fill-value.Post
 fill-value-enum-known-row-2 t c = c .match .keys3
@@ -255,67 +256,58 @@ fill-value-returns-3 : (t : ℕ) → fill-value-lts.Need-returns-3 (fill-value-c
 fill-value-returns-3 t c = value-unread (c .before .before .row-at .ensures) (c .enum-told .given .1)
 
 fill-value-same-length : (t : ℕ) → fill-value-lts.Need-same-length (fill-value-claims t) (fill-value-at t) fill-value.Post
-fill-value-same-length t c = c .before .before .before .before .before .before .before .before .before .before .before .before .before .before .before .before .put-row .kept .0
+fill-value-same-length t c = c .before .before .before .before .before .before .before .before .before .before .before .before .put-leaf .kept .0
 
 fill-value-same-length-2 : (t : ℕ) → fill-value-lts.Need-same-length-2 (fill-value-claims t) (fill-value-at t) fill-value.Post
-fill-value-same-length-2 t c = c .before .before .before .before .before .before .before .before .before .before .before .before .before .before .before .before .put-row .kept .1 .0
+fill-value-same-length-2 t c = c .before .before .before .before .before .before .before .before .before .before .before .before .put-leaf .kept .1 .0
 
 fill-value-same-length-3 : (t : ℕ) → fill-value-lts.Need-same-length-3 (fill-value-claims t) (fill-value-at t) fill-value.Post
-fill-value-same-length-3 t c = c .before .before .before .before .before .before .before .before .before .before .before .before .before .before .before .before .put-row .kept .1 .1 .0
+fill-value-same-length-3 t c = c .before .before .before .before .before .before .before .before .before .before .before .before .put-leaf .kept .1 .1 .0
 
 fill-value-same-length-4 : (t : ℕ) → fill-value-lts.Need-same-length-4 (fill-value-claims t) (fill-value-at t) fill-value.Post
-fill-value-same-length-4 t c = c .before .before .before .before .before .before .before .before .before .before .before .before .before .before .before .before .put-row .kept .1 .1 .1 .0
+fill-value-same-length-4 t c = c .before .before .before .before .before .before .before .before .before .before .before .before .put-leaf .kept .1 .1 .1 .0
 
 fill-value-same-length-5 : (t : ℕ) → fill-value-lts.Need-same-length-5 (fill-value-claims t) (fill-value-at t) fill-value.Post
-fill-value-same-length-5 t c = c .before .before .before .before .before .before .before .before .before .before .before .before .before .before .before .before .put-row .kept .1 .1 .1 .1 .0
+fill-value-same-length-5 t c = c .before .before .before .before .before .before .before .before .before .before .before .before .put-leaf .kept .1 .1 .1 .1 .0
 
 fill-value-same-length-6 : (t : ℕ) → fill-value-lts.Need-same-length-6 (fill-value-claims t) (fill-value-at t) fill-value.Post
-fill-value-same-length-6 t c = c .before .before .before .before .before .before .before .before .before .before .before .before .before .before .before .before .put-row .kept .1 .1 .1 .1 .1 .0
+fill-value-same-length-6 t c = c .before .before .before .before .before .before .before .before .before .before .before .before .put-leaf .kept .1 .1 .1 .1 .1 .0
 
 fill-value-same-length-7 : (t : ℕ) → fill-value-lts.Need-same-length-7 (fill-value-claims t) (fill-value-at t) fill-value.Post
-fill-value-same-length-7 t c = c .before .before .before .before .before .before .before .before .before .before .before .before .before .before .before .before .put-row .kept .1 .1 .1 .1 .1 .1 .0
-
-fill-value-same-length-8 : (t : ℕ) → fill-value-lts.Need-same-length-8 (fill-value-claims t) (fill-value-at t) fill-value.Post
-fill-value-same-length-8 t c = c .before .before .before .before .before .before .before .before .before .before .before .before .before .before .before .before .put-row .kept .1 .1 .1 .1 .1 .1 .1 .0
-
-fill-value-same-length-9 : (t : ℕ) → fill-value-lts.Need-same-length-9 (fill-value-claims t) (fill-value-at t) fill-value.Post
-fill-value-same-length-9 t c = c .before .before .before .before .before .before .before .before .before .before .before .before .before .before .before .before .put-row .kept .1 .1 .1 .1 .1 .1 .1 .1 .0
-
-fill-value-same-length-10 : (t : ℕ) → fill-value-lts.Need-same-length-10 (fill-value-claims t) (fill-value-at t) fill-value.Post
-fill-value-same-length-10 t c = c .before .before .before .before .before .before .before .before .before .before .before .before .before .before .before .before .put-row .kept .1 .1 .1 .1 .1 .1 .1 .1 .1 .0
+fill-value-same-length-7 t c = c .before .before .before .before .before .before .before .before .before .before .before .before .put-leaf .kept .1 .1 .1 .1 .1 .1 .0
 
 fill-value-returns-4 : (t : ℕ) → fill-value-lts.Need-returns-4 (fill-value-claims t) (fill-value-at t) fill-value.Post
-fill-value-returns-4 t c = value-leaf (c .before .before .before .before .before .before .before .before .before .before .before .before .before .before .before .before .before .before .before .before .before .before .before .before .before .before .before .before .before .before .row-at .ensures) (c .before .before .before .before .before .before .before .before .before .before .before .before .before .before .before .before .before .before .before .before .before .before .before .before .before .before .before .before .row .given .1) (c .before .before .before .before .before .before .before .before .before .before .before .before .before .before .before .before .before .before .before .before .before .before .before .before .before .before .before .before .before .before .before .if1 .left) (c .before .before .before .before .before .before .before .before .before .before .before .before .before .before .before .before .put-row .ensures)
+fill-value-returns-4 t c = value-leaf (c .before .before .before .before .before .before .before .before .before .before .before .before .before .before .before .before .before .before .before .before .before .before .before .row-at .ensures) (c .before .before .before .before .before .before .before .before .before .before .before .before .before .before .before .before .before .before .before .before .before .row .given .1) (c .before .before .before .before .before .before .before .before .before .before .before .before .before .before .before .before .before .before .before .before .before .before .before .before .if1 .left) (leaf-in-blank (c .before .before .before .before .before .before .before .before .before .before .before .before .put-leaf .ensures))
+
+fill-value-same-length-8 : (t : ℕ) → fill-value-lts.Need-same-length-8 (fill-value-claims t) (fill-value-at t) fill-value.Post
+fill-value-same-length-8 t c = c .before .before .before .before .before .before .before .before .before .before .before .before .before .before .before .before .fill-elements .kept .1 .0
+
+fill-value-same-length-9 : (t : ℕ) → fill-value-lts.Need-same-length-9 (fill-value-claims t) (fill-value-at t) fill-value.Post
+fill-value-same-length-9 t c = c .before .before .before .before .before .before .before .before .before .before .before .before .before .before .before .before .fill-elements .kept .1 .1 .0
+
+fill-value-same-length-10 : (t : ℕ) → fill-value-lts.Need-same-length-10 (fill-value-claims t) (fill-value-at t) fill-value.Post
+fill-value-same-length-10 t c = c .before .before .before .before .before .before .before .before .before .before .before .before .before .before .before .before .fill-elements .kept .1 .1 .1 .0
 
 fill-value-same-length-11 : (t : ℕ) → fill-value-lts.Need-same-length-11 (fill-value-claims t) (fill-value-at t) fill-value.Post
-fill-value-same-length-11 t c = c .before .before .before .before .before .before .before .before .before .before .before .before .before .before .before .before .fill-elements .kept .1 .0
+fill-value-same-length-11 t c = c .before .before .before .before .before .before .before .before .before .before .before .before .before .before .before .before .fill-elements .kept .1 .1 .1 .1 .0
 
 fill-value-same-length-12 : (t : ℕ) → fill-value-lts.Need-same-length-12 (fill-value-claims t) (fill-value-at t) fill-value.Post
-fill-value-same-length-12 t c = c .before .before .before .before .before .before .before .before .before .before .before .before .before .before .before .before .fill-elements .kept .1 .1 .0
+fill-value-same-length-12 t c = c .before .before .before .before .before .before .before .before .before .before .before .before .before .before .before .before .fill-elements .kept .1 .1 .1 .1 .1 .0
 
 fill-value-same-length-13 : (t : ℕ) → fill-value-lts.Need-same-length-13 (fill-value-claims t) (fill-value-at t) fill-value.Post
-fill-value-same-length-13 t c = c .before .before .before .before .before .before .before .before .before .before .before .before .before .before .before .before .fill-elements .kept .1 .1 .1 .0
+fill-value-same-length-13 t c = c .before .before .before .before .before .before .before .before .before .before .before .before .before .before .before .before .fill-elements .kept .1 .1 .1 .1 .1 .1 .0
 
 fill-value-same-length-14 : (t : ℕ) → fill-value-lts.Need-same-length-14 (fill-value-claims t) (fill-value-at t) fill-value.Post
-fill-value-same-length-14 t c = c .before .before .before .before .before .before .before .before .before .before .before .before .before .before .before .before .fill-elements .kept .1 .1 .1 .1 .0
+fill-value-same-length-14 t c = c .before .before .before .before .before .before .before .before .before .before .before .before .before .before .before .before .fill-elements .kept .1 .1 .1 .1 .1 .1 .1 .0
 
 fill-value-same-length-15 : (t : ℕ) → fill-value-lts.Need-same-length-15 (fill-value-claims t) (fill-value-at t) fill-value.Post
-fill-value-same-length-15 t c = c .before .before .before .before .before .before .before .before .before .before .before .before .before .before .before .before .fill-elements .kept .1 .1 .1 .1 .1 .0
+fill-value-same-length-15 t c = c .before .before .before .before .before .before .before .before .before .before .before .before .before .before .before .before .fill-elements .kept .1 .1 .1 .1 .1 .1 .1 .1 .0
 
 fill-value-same-length-16 : (t : ℕ) → fill-value-lts.Need-same-length-16 (fill-value-claims t) (fill-value-at t) fill-value.Post
-fill-value-same-length-16 t c = c .before .before .before .before .before .before .before .before .before .before .before .before .before .before .before .before .fill-elements .kept .1 .1 .1 .1 .1 .1 .0
+fill-value-same-length-16 t c = c .before .before .before .before .before .before .before .before .before .before .before .before .before .before .before .before .fill-elements .kept .1 .1 .1 .1 .1 .1 .1 .1 .1 .0
 
 fill-value-same-length-17 : (t : ℕ) → fill-value-lts.Need-same-length-17 (fill-value-claims t) (fill-value-at t) fill-value.Post
-fill-value-same-length-17 t c = c .before .before .before .before .before .before .before .before .before .before .before .before .before .before .before .before .fill-elements .kept .1 .1 .1 .1 .1 .1 .1 .0
-
-fill-value-same-length-18 : (t : ℕ) → fill-value-lts.Need-same-length-18 (fill-value-claims t) (fill-value-at t) fill-value.Post
-fill-value-same-length-18 t c = c .before .before .before .before .before .before .before .before .before .before .before .before .before .before .before .before .fill-elements .kept .1 .1 .1 .1 .1 .1 .1 .1 .0
-
-fill-value-same-length-19 : (t : ℕ) → fill-value-lts.Need-same-length-19 (fill-value-claims t) (fill-value-at t) fill-value.Post
-fill-value-same-length-19 t c = c .before .before .before .before .before .before .before .before .before .before .before .before .before .before .before .before .fill-elements .kept .1 .1 .1 .1 .1 .1 .1 .1 .1 .0
-
-fill-value-same-length-20 : (t : ℕ) → fill-value-lts.Need-same-length-20 (fill-value-claims t) (fill-value-at t) fill-value.Post
-fill-value-same-length-20 t c = c .before .before .before .before .before .before .before .before .before .before .before .before .before .before .before .before .fill-elements .kept .1 .1 .1 .1 .1 .1 .1 .1 .1 .1 .0
+fill-value-same-length-17 t c = c .before .before .before .before .before .before .before .before .before .before .before .before .before .before .before .before .fill-elements .kept .1 .1 .1 .1 .1 .1 .1 .1 .1 .1 .0
 
 fill-value-returns-5 : (t : ℕ) → fill-value-lts.Need-returns-5 (fill-value-claims t) (fill-value-at t) fill-value.Post
 fill-value-returns-5 t c = value-holder (c .before .before .before .before .before .before .before .before .before .before .before .before .before .before .before .before .before .before .before .before .before .before .before .before .before .before .before .before .before .before .before .row-at .ensures) (c .before .before .before .before .before .before .before .before .before .before .before .before .before .before .before .before .before .before .before .before .before .before .before .before .before .before .before .before .before .row2 .given .1) (c .before .before .before .before .before .before .before .before .before .before .before .before .before .before .before .before .before .before .before .before .before .before .before .before .before .before .before .if2 .left) (c .before .before .before .before .before .before .before .before .before .before .before .before .before .before .before .before .fill-elements .ensures)
@@ -380,9 +372,9 @@ pub +fill-elements+fill-value-spec : {M : Type 1} → statement M
     (fill-value-row-at-requires t)
     (fill-value-enum-told t)
     (fill-value-enum-known-row t)
-    (fill-value-put-row-requires t)
-    (fill-value-cast-t46 t)
-    (fill-value-add-t47 t)
+    (fill-value-put-leaf-requires t)
+    (fill-value-cast-t40 t)
+    (fill-value-add-t41 t)
     (fill-value-enum-known-row-2 t)
     (fill-value-returns-2 t)
     (fill-value-add-fill-elements t)
@@ -396,10 +388,10 @@ pub +fill-elements+fill-value-spec : {M : Type 1} → statement M
     (fill-value-same-length-5 t)
     (fill-value-same-length-6 t)
     (fill-value-same-length-7 t)
+    (fill-value-returns-4 t)
     (fill-value-same-length-8 t)
     (fill-value-same-length-9 t)
     (fill-value-same-length-10 t)
-    (fill-value-returns-4 t)
     (fill-value-same-length-11 t)
     (fill-value-same-length-12 t)
     (fill-value-same-length-13 t)
@@ -407,7 +399,4 @@ pub +fill-elements+fill-value-spec : {M : Type 1} → statement M
     (fill-value-same-length-15 t)
     (fill-value-same-length-16 t)
     (fill-value-same-length-17 t)
-    (fill-value-same-length-18 t)
-    (fill-value-same-length-19 t)
-    (fill-value-same-length-20 t)
     (fill-value-returns-5 t)

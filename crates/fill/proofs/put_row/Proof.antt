@@ -1,33 +1,16 @@
-use borrow.Author.Tests.{lt-ltb, le-ltb}
 use mir.ValLaws.{toZ-ofZ}
-use mir.Syntax.{w64, w32}
-use Rattle.fill.specs.Columns.{putRow}
+use mir.Syntax.{w32}
+use native.Mathlib.Omega.{arith}
+use Rattle.fill.proofs.Columns.{leaf-room, row-below, row-beyond}
 use borrow.Author.Needs.{needs}
 use Rattle.fill.proofs.put_row.Statement.{statement}
 use Rattle.fill.proofs.put_row.Tie as tie
 use Rattle.fill.proofs.put_row.Reads as reads
 use Rattle.fill.proofs.put_row.Lts as lts
+use Rattle.fill.proofs.put_leaf.Reads as put-leaf-reads
 
-mul-ty-now : tie.Need-mul-ty-now
-mul-ty-now c = search needs
-
-slice-set-from-ty-now : tie.Need-slice-set-from-ty-now
-slice-set-from-ty-now c = search needs
-
-slice-write-own : tie.Need-slice-write-own
-slice-write-own c = search needs
-
-mul-label : tie.Need-mul-label
-mul-label c = search needs
-
-slice-write-label : tie.Need-slice-write-label
-slice-write-label c = search needs
-
-mul-number-now : tie.Need-mul-number-now
-mul-number-now c = search needs
-
-slice-set-from-number-now : tie.Need-slice-set-from-number-now
-slice-set-from-number-now c = search needs
+put-leaf-requires : tie.Need-put-leaf-requires
+put-leaf-requires c κs = leaf-room (c .before .before .before .before .before .before .before .before .before .before .before .before .before .pre)
 
 mul-first-now : tie.Need-mul-first-now
 mul-first-now c = search needs
@@ -36,34 +19,16 @@ slice-set-from-first-now : tie.Need-slice-set-from-first-now
 slice-set-from-first-now c = search needs
 
 mul-second-now : tie.Need-mul-second-now
-mul-second-now c = search needs
+mul-second-now c = mul-first-now (c .before)
 
 slice-set-from-second-now : tie.Need-slice-set-from-second-now
-slice-set-from-second-now c = search needs
-
-mul-place : tie.Need-mul-place
-mul-place c = search needs
-
-slice-write-place : tie.Need-slice-write-place
-slice-write-place c = search needs
+slice-set-from-second-now c = omega (arith, c .before .before .if1 .taken, c .before .before .before .before .before .before .before .before .before .before .before .before .before .before .before .before .before .before .before .before .before .before .before .before .before .before .before .before .before .pre .second-room)
 
 mul-below : tie.Need-mul-below
-mul-below c = search needs
+mul-below c = mul-first-now (c .before)
 
 slice-write-below : tie.Need-slice-write-below
-slice-write-below c = search needs
-
-mul-start : tie.Need-mul-start
-mul-start c = search needs
-
-slice-write-start : tie.Need-slice-write-start
-slice-write-start c = search needs
-
-mul-end : tie.Need-mul-end
-mul-end c = search needs
-
-slice-write-end : tie.Need-slice-write-end
-slice-write-end c = search needs
+slice-write-below c = omega (arith, c .before .before .if1 .taken, c .before .before .before .before .before .before .before .before .before .before .before .before .before .before .before .before .before .before .before .before .before .before .before .before .before .before .before .before .before .pre .below-room)
 
 same-length : tie.Need-same-length
 same-length c = search needs
@@ -96,36 +61,43 @@ same-length-10 : tie.Need-same-length-10
 same-length-10 c = search needs
 
 returns : tie.Need-returns
-unfolding putRow
-returns c = record { stored = simp (lt-ltb _ _ (c .before .before .before .before .if1 .taken), toZ-ofZ w32 (c .before .before .before .before .before .args .r .ty) (record { sfits = c .before .before .before .struct-told .given .0 .1 }), toZ-ofZ w64 (c .before .before .before .before .before .args .r .number) (record { sfits = c .before .before .before .struct-told .given .1 .1 .1 .0 .1 }), toZ-ofZ w32 (c .before .before .before .before .before .args .r .first) (record { sfits = c .before .before .before .struct-told .given .1 .1 .1 .1 .0 .1 }), toZ-ofZ w32 (c .before .before .before .before .before .args .r .second) (record { sfits = c .before .before .before .struct-told .given .1 .1 .1 .1 .1 .0 .1 })) }
+returns c = row-below (c .before .before .before .before .before .before .before .before .before .before .before .before .before .before .before .put-leaf .ensures) (c .before .before .if1 .taken) (toZ-ofZ w32 _ (record { sfits = c .struct-told2 .given .1 .1 .1 .1 .0 .1 })) (toZ-ofZ w32 _ (record { sfits = c .struct-told2 .given .1 .1 .1 .1 .1 .0 .1 }))
+
+same-length-11 : tie.Need-same-length-11
+same-length-11 c = search needs
+
+same-length-12 : tie.Need-same-length-12
+same-length-12 c = search needs
+
+same-length-13 : tie.Need-same-length-13
+same-length-13 c = search needs
+
+same-length-14 : tie.Need-same-length-14
+same-length-14 c = search needs
+
+same-length-15 : tie.Need-same-length-15
+same-length-15 c = search needs
+
+same-length-16 : tie.Need-same-length-16
+same-length-16 c = search needs
+
+same-length-17 : tie.Need-same-length-17
+same-length-17 c = search needs
 
 returns-2 : tie.Need-returns-2
-unfolding putRow
-returns-2 c = record { stored = simp (le-ltb _ _ (c .if1 .left)) }
+returns-2 c = row-beyond (c .before .before .before .before .before .before .before .before .before .before .before .before .before .put-leaf .ensures) (c .if1 .left)
 
 pub put-row-spec : {M : Type 1} → statement M
 put-row-spec =
     tie.close
     (tie.spec
-    mul-ty-now
-    slice-set-from-ty-now
-    slice-write-own
-    mul-label
-    slice-write-label
-    mul-number-now
-    slice-set-from-number-now
+    put-leaf-requires
     mul-first-now
     slice-set-from-first-now
     mul-second-now
     slice-set-from-second-now
-    mul-place
-    slice-write-place
     mul-below
     slice-write-below
-    mul-start
-    slice-write-start
-    mul-end
-    slice-write-end
     same-length
     same-length-2
     same-length-3
@@ -137,4 +109,11 @@ put-row-spec =
     same-length-9
     same-length-10
     returns
+    same-length-11
+    same-length-12
+    same-length-13
+    same-length-14
+    same-length-15
+    same-length-16
+    same-length-17
     returns-2)
