@@ -2,4 +2,4 @@ pub mod Keys
 pub mod Table
 pub mod Elements
 pub mod Forms
-pub mod Gates
+pub mod Coming

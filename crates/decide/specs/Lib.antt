@@ -1,4 +1,4 @@
 pub mod Classes
 pub mod Elements
 pub mod Forms
-pub mod Gates
+pub mod Coming

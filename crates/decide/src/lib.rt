@@ -6,7 +6,7 @@ ghost use Rattle.format.specs.Values.{label};
 ghost use Rattle.decide.specs.Classes.{ClassOf, mayBeElement};
 ghost use Rattle.decide.specs.Elements.{AmountAt, ElementAt, TypeAt};
 ghost use Rattle.decide.specs.Forms.{ownOf, IdentifierAt, TypedAt, formOf, alikeNest, nestIn, turn};
-ghost use Rattle.decide.specs.Gates.{IndexNext, NextAt, nextLow};
+ghost use Rattle.decide.specs.Coming.{IndexNext, NextAt, nextLow};
 use integer::Read32;
 use integer::Signed;
 use reading::Refusal;

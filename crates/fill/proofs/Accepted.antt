@@ -18,7 +18,7 @@ use Rattle.decide.specs.declared.Form.{Form}
 use Rattle.decide.specs.declared.Form.the-variants.{Whole, Named, Bare}
 use Rattle.decide.specs.declared.Nest.{Nest}
 use Rattle.decide.specs.Forms.{formOf, nestWith, turn}
-use Rattle.decide.specs.Gates.{nextLow}
+use Rattle.decide.specs.Coming.{nextLow}
 use Rattle.decide.proofs.Forms.{turn-same, turn-next}
 use Rattle.fill.specs.Numbers.{Stands}
 use Rattle.fill.specs.Rows.{several, nestBy, nestOf, Dated}

@@ -9,7 +9,7 @@ use Rattle.decide.specs.declared.Form.{Form}
 use Rattle.decide.specs.declared.Nest.{Nest}
 use Rattle.decide.specs.declared.Next.{Next}
 use Rattle.decide.specs.declared.Next.the-variants.{Value, End}
-use Rattle.decide.specs.Gates.{nextLow, pastNext, NextAt}
+use Rattle.decide.specs.Coming.{nextLow, pastNext, NextAt}
 use Rattle.fill.specs.declared.Found.{Found}
 use Rattle.fill.specs.declared.Found.the-variants.{Leaf, Holder}
 use Rattle.fill.specs.declared.Step.{Step}

@@ -50,36 +50,41 @@ same-table p0 p1 p2 p3 p4 p5 p6 p7 p8 p9 = rw (p0, p1, p2, p3, p4, p5, p6, p7, p
 put-below : {A : Type 0} {lim k : ℕ} (l : List A) {v w : A} → k < lim → w ≡ v → set l k w ≡ put lim l k v
 put-below {lim = lim} {k = k} l h e = rw (lt-ltb k lim h, e)
 
-put-beyond : {A : Type 0} {lim k : ℕ} (l : List A) (v : A) → lim ≤ k → l ≡ put lim l k v
-put-beyond {lim = lim} {k = k} l v h = rw (le-ltb k lim h)
+pub row-beyond : {lim k : ℕ} {r : Row} {t : Table} → lim ≤ k → Stored lim k r t t
+unfolding putRow
+row-beyond {lim} {k} h = record { stored = rw (le-ltb k lim h) }
 
 -- ---- a row in seven columns
 
-module _ {lim : ℕ} {ty number : List ℤ} {own label place start end : List ℕ} where
-  pub leaf-below : {k : ℕ} {r : Row} {t n : ℤ} → k < lim → t ≡ r .ty → n ≡ r .number
-      → LeafStored lim k r (seven ty own label number place start end) (seven (set ty k t) (set own k (r .own)) (set label k (r .label)) (set number k n) (set place k (r .place)) (set start k (r .start)) (set end k (r .end)))
-  leaf-below h p q = record { ty-stored = put-below ty h p; own-stored = put-below own h refl; label-stored = put-below label h refl; number-stored = put-below number h q; place-stored = put-below place h refl; start-stored = put-below start h refl; end-stored = put-below end h refl }
+module _ {k : ℕ} {ty number : List ℤ} {own label place start end : List ℕ} where
+  pub leaf-set : {r : Row} {t n : ℤ} → t ≡ r .ty → n ≡ r .number
+      → LeafStored k r (seven ty own label number place start end) (seven (set ty k t) (set own k (r .own)) (set label k (r .label)) (set number k n) (set place k (r .place)) (set start k (r .start)) (set end k (r .end)))
+  leaf-set p q = record { ty-stored = rw p; own-stored = refl; label-stored = refl; number-stored = rw q; place-stored = refl; start-stored = refl; end-stored = refl }
 
-  pub leaf-beyond : {k : ℕ} {r : Row} → lim ≤ k → LeafStored lim k r (seven ty own label number place start end) (seven ty own label number place start end)
-  leaf-beyond {r = r} h = record { ty-stored = put-beyond ty (r .ty) h; own-stored = put-beyond own (r .own) h; label-stored = put-beyond label (r .label) h; number-stored = put-beyond number (r .number) h; place-stored = put-beyond place (r .place) h; start-stored = put-beyond start (r .start) h; end-stored = put-beyond end (r .end) h }
+  module _ {lim : ℕ} (h : k < lim) {first second : List ℤ} {below : List ℕ} where
+    pub leaf-room : Roomy lim (columns ty own label number first second place below start end) → LeafRoom k (seven ty own label number place start end)
+    leaf-room r = record {
+      ty-room = omega (arith, r .ty-room);
+      own-room = omega (arith, r .own-room);
+      label-room = omega (arith, r .label-room);
+      number-room = omega (arith, r .number-room);
+      place-room = omega (arith, r .place-room);
+      start-room = omega (arith, r .start-room);
+      end-room = omega (arith, r .end-room);
+    }
 
-  module _ {first second : List ℤ} {below : List ℕ} where
-    pub leaf-room : Roomy lim (columns ty own label number first second place below start end) → LeafRoom lim (seven ty own label number place start end)
-    leaf-room r = record { ty-room = r .ty-room; own-room = r .own-room; label-room = r .label-room; number-room = r .number-room; place-room = r .place-room; start-room = r .start-room; end-room = r .end-room }
-
-    module _ {k : ℕ} {r : Row} {ty' number' : List ℤ} {own' label' place' start' end' : List ℕ} (st : LeafStored lim k r (seven ty own label number place start end) (seven ty' own' label' number' place' start' end')) where
+    module _ {r : Row} {ty' number' : List ℤ} {own' label' place' start' end' : List ℕ} (st : LeafStored k r (seven ty own label number place start end) (seven ty' own' label' number' place' start' end')) where
       -- with the other three the row is stored
       leaf-and-three : {first' second' : List ℤ} {below' : List ℕ} → first' ≡ put lim first k (r .first) → second' ≡ put lim second k (r .second) → below' ≡ put lim below k (r .below)
           → Stored lim k r (columns ty own label number first second place below start end) (columns ty' own' label' number' first' second' place' below' start' end')
       unfolding putRow
-      leaf-and-three p q s = record { stored = same-table (st .ty-stored) (st .own-stored) (st .label-stored) (st .number-stored) p q (st .place-stored) s (st .start-stored) (st .end-stored) }
+      leaf-and-three p q s = record {
+        stored = same-table (st .ty-stored ∙ put-below ty h refl) (st .own-stored ∙ put-below own h refl) (st .label-stored ∙ put-below label h refl) (st .number-stored ∙ put-below number h refl) p q (st .place-stored ∙ put-below place h refl) s (st .start-stored ∙ put-below start h refl) (st .end-stored ∙ put-below end h refl);
+      }
 
-      pub row-below : {e f : ℤ} → k < lim → e ≡ r .first → f ≡ r .second
+      pub row-below : {e f : ℤ} → e ≡ r .first → f ≡ r .second
           → Stored lim k r (columns ty own label number first second place below start end) (columns ty' own' label' number' (set first k e) (set second k f) place' (set below k (r .below)) start' end')
-      row-below h p q = leaf-and-three (put-below first h p) (put-below second h q) (put-below below h refl)
-
-      pub row-beyond : lim ≤ k → Stored lim k r (columns ty own label number first second place below start end) (columns ty' own' label' number' first second place' below start' end')
-      row-beyond h = leaf-and-three (put-beyond first (r .first) h) (put-beyond second (r .second) h) (put-beyond below (r .below) h)
+      row-below p q = leaf-and-three (put-below first h p) (put-below second h q) (put-below below h refl)
 
       -- and so it is without them, where they are blank and the row has 0 there
       pub leaf-in-blank : Single r → Blank lim k (columns ty own label number first second place below start end)

@@ -17,7 +17,7 @@ use Rattle.decide.specs.declared.Nest.{Nest}
 use Rattle.decide.specs.declared.Next.{Next}
 use Rattle.decide.specs.declared.Next.the-variants.{Value, End, Halt}
 use Rattle.decide.specs.Forms.{turn}
-use Rattle.decide.specs.Gates.{nextLow, pastNext, NextAt}
+use Rattle.decide.specs.Coming.{nextLow, pastNext, NextAt}
 use Rattle.fill.specs.declared.Step.{Step}
 use Rattle.fill.specs.declared.Step.the-variants.{On, Unread}
 use Rattle.fill.specs.Columns.{Kept, Stored, putRow, Blank, puts}

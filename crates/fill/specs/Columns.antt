@@ -2,7 +2,7 @@
 use mathlib.Core.Path.{_≡_}
 use mathlib.Core.Bool.{cond}
 use mathlib.Core.List.{List, [], _∷_, _++_, map}
-use Prim.Native.Nat.{ℕ, _+_, _≤_}
+use Prim.Native.Nat.{ℕ, _+_, _≤_, _<_}
 use lib.ListN.{length, set, take, drop, replicate}
 use lib.Dec.{ltb}
 use lib.IntN.{ℤ, pos}
@@ -52,28 +52,28 @@ pub record Stored (lim k : ℕ) (r : Row) (t t' : Table) : Type 0 where
 abbrev pub cleared : {A : Type 0} → ℕ → A → List A → List A
 cleared n z l = replicate n z ++ drop n l
 
--- ---- seven columns: in the other three (element types, rows below) only containers have more than 0
+-- ---- seven columns: in the other three, element types and rows below, only containers have more than 0
 
 abbrev pub seven : List ℤ → List ℕ → List ℕ → List ℤ → List ℕ → List ℕ → List ℕ → Table
 seven x0 x1 x2 x3 x6 x8 x9 = columns x0 x1 x2 x3 [] [] x6 [] x8 x9
 
-pub record LeafRoom (lim : ℕ) (t : Table) : Type 0 where
-  pub ty-room : lim ≤ length (t .ty)
-  pub own-room : lim ≤ length (t .own)
-  pub label-room : lim ≤ length (t .label)
-  pub number-room : lim ≤ length (t .number)
-  pub place-room : lim ≤ length (t .place)
-  pub start-room : lim ≤ length (t .start)
-  pub end-room : lim ≤ length (t .end)
+pub record LeafRoom (k : ℕ) (t : Table) : Type 0 where
+  pub ty-room : k < length (t .ty)
+  pub own-room : k < length (t .own)
+  pub label-room : k < length (t .label)
+  pub number-room : k < length (t .number)
+  pub place-room : k < length (t .place)
+  pub start-room : k < length (t .start)
+  pub end-room : k < length (t .end)
 
-pub record LeafStored (lim k : ℕ) (r : Row) (t t' : Table) : Type 0 where
-  pub ty-stored : t' .ty ≡ put lim (t .ty) k (r .ty)
-  pub own-stored : t' .own ≡ put lim (t .own) k (r .own)
-  pub label-stored : t' .label ≡ put lim (t .label) k (r .label)
-  pub number-stored : t' .number ≡ put lim (t .number) k (r .number)
-  pub place-stored : t' .place ≡ put lim (t .place) k (r .place)
-  pub start-stored : t' .start ≡ put lim (t .start) k (r .start)
-  pub end-stored : t' .end ≡ put lim (t .end) k (r .end)
+pub record LeafStored (k : ℕ) (r : Row) (t t' : Table) : Type 0 where
+  pub ty-stored : t' .ty ≡ set (t .ty) k (r .ty)
+  pub own-stored : t' .own ≡ set (t .own) k (r .own)
+  pub label-stored : t' .label ≡ set (t .label) k (r .label)
+  pub number-stored : t' .number ≡ set (t .number) k (r .number)
+  pub place-stored : t' .place ≡ set (t .place) k (r .place)
+  pub start-stored : t' .start ≡ set (t .start) k (r .start)
+  pub end-stored : t' .end ≡ set (t .end) k (r .end)
 
 -- the other three have 0 from row k on: to store it there changes nothing
 pub record Blank (lim k : ℕ) (t : Table) : Type 0 where

@@ -14,7 +14,7 @@ use Rattle.format.specs.Writing.{Table}
 use Rattle.decide.specs.declared.Form.{Form}
 use Rattle.decide.specs.declared.Nest.{Nest}
 use Rattle.decide.specs.Forms.{turn}
-use Rattle.decide.specs.Gates.{nextLow}
+use Rattle.decide.specs.Coming.{nextLow}
 use Rattle.fill.specs.declared.Step.{Step}
 use Rattle.fill.specs.declared.Step.the-variants.{On, Unread}
 use Rattle.fill.specs.Columns.{Roomy, putRow, Blank, puts, Filled}

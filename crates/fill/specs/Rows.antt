@@ -2,7 +2,7 @@
 use mathlib.Core.Path.{_≡_}
 use mathlib.Core.Bool.{Bool, true, false, cond}
 use mathlib.Core.List.{List}
-use Prim.Native.Nat.{ℕ, suc, _+_, _-_, _*_, _^_, _<_, _≤_}
+use Prim.Native.Nat.{ℕ, suc, _+_, _-_, _^_, _<_, _≤_}
 use lib.ListN.{length}
 use lib.IntN.{ℤ, pos, negsuc}
 use lib.Signed.{mag}
@@ -15,7 +15,8 @@ use Rattle.format.specs.Rows.{hasContents, rowOf}
 use Rattle.decide.specs.declared.Form.{Form}
 use Rattle.decide.specs.declared.Form.the-variants.{Whole, Named, Bare}
 use Rattle.decide.specs.declared.Nest.{Nest}
-use Rattle.decide.specs.Forms.{formOf, nestWith}
+use Rattle.decide.specs.declared.Inside.the-variants.{List as Several, Pairs, Sparse, User}
+use Rattle.decide.specs.Forms.{nestWith, nestIn}
 use Rattle.fill.specs.declared.Numbered.{Numbered}
 use Rattle.fill.specs.declared.Numbered.the-variants.{Number, Missing}
 use Rattle.fill.specs.declared.Fore.{Fore}
@@ -32,12 +33,13 @@ unfoldable pub several : Children → ℕ
 several empty = 0
 several (child i h cs next) = suc (several next)
 
+-- by its element types and its number, as `nestIn` has it; an identity holds one value, a date or time its integers
 abbrev pub nestBy : Kind → Holds → Head → Children → Nest
 nestBy k nothing h cs = nestWith false false Whole Whole 0
-nestBy k values h cs = nestWith false false (formOf (k .first) (h .first)) (formOf (k .first) (h .first)) (mag (h .number))
-nestBy k couples h cs = nestWith false true (formOf (k .first) (h .first)) (formOf (k .second) (h .second)) (2 * mag (h .number))
-nestBy k indexes h cs = nestWith true false (formOf (k .first) (h .first)) (formOf (k .first) (h .first)) (mag (h .number))
-nestBy k properties h cs = nestWith true false Whole Whole (2 ^ 31)
+nestBy k values h cs = nestIn Several (k .first) (k .second) (h .first) (h .second) (mag (h .number))
+nestBy k couples h cs = nestIn Pairs (k .first) (k .second) (h .first) (h .second) (mag (h .number))
+nestBy k indexes h cs = nestIn Sparse (k .first) (k .second) (h .first) (h .second) (mag (h .number))
+nestBy k properties h cs = nestIn User (k .first) (k .second) (h .first) (h .second) (mag (h .number))
 nestBy k one h cs = nestWith false false Named Named 1
 nestBy k (parts d) h cs = nestWith false false (Bare (negsuc 1)) (Bare (negsuc 1)) (several cs)
 

@@ -52,7 +52,7 @@ fn clear_counts(col: &mut [u32], n: usize)
     }
 }
 
-// Stores a row in seven columns, if its place is below the limit. In the other three only containers have more than the 0 that stands there.
+// Stores a row in seven columns: all but element types and rows below, where a row that is no container's has the 0 that stands there.
 fn put_leaf(
     ty: &mut [i32],
     own: &mut [u8],
@@ -61,24 +61,21 @@ fn put_leaf(
     place: &mut [u32],
     start: &mut [u32],
     end: &mut [u32],
-    lim: usize,
     k: usize,
     r: Row,
 )
-    requires { ⌜ LeafRoom lim (seven (now ty) (now own) (now label) (now number) (now place) (now start) (now end)) ⌝ }
-    ensures { λ _. ⌜ LeafStored lim k r (seven (now (ty .entry)) (now (own .entry)) (now (label .entry)) (now (number .entry)) (now (place .entry)) (now (start .entry)) (now (end .entry))) (seven (now (ty .exit)) (now (own .exit)) (now (label .exit)) (now (number .exit)) (now (place .exit)) (now (start .exit)) (now (end .exit))) ⌝ }
+    requires { ⌜ LeafRoom k (seven (now ty) (now own) (now label) (now number) (now place) (now start) (now end)) ⌝ }
+    ensures { λ _. ⌜ LeafStored k r (seven (now (ty .entry)) (now (own .entry)) (now (label .entry)) (now (number .entry)) (now (place .entry)) (now (start .entry)) (now (end .entry))) (seven (now (ty .exit)) (now (own .exit)) (now (label .exit)) (now (number .exit)) (now (place .exit)) (now (start .exit)) (now (end .exit))) ⌝ }
 {
-    if k < lim {
-        let ty_now = r.ty;
-        ty[k] = ty_now;
-        own[k] = r.own;
-        label[k] = r.label;
-        let number_now = r.number;
-        number[k] = number_now;
-        place[k] = r.place;
-        start[k] = r.start;
-        end[k] = r.end;
-    }
+    let ty_now = r.ty;
+    ty[k] = ty_now;
+    own[k] = r.own;
+    label[k] = r.label;
+    let number_now = r.number;
+    number[k] = number_now;
+    place[k] = r.place;
+    start[k] = r.start;
+    end[k] = r.end;
 }
 
 // Stores a row in the columns, if its place is below the limit.
@@ -100,8 +97,8 @@ fn put_row(
     requires { ⌜ Roomy lim (columns (now ty) (now own) (now label) (now number) (now first) (now second) (now place) (now below) (now start) (now end)) ⌝ }
     ensures { λ _. ⌜ Stored lim k r (columns (now (ty .entry)) (now (own .entry)) (now (label .entry)) (now (number .entry)) (now (first .entry)) (now (second .entry)) (now (place .entry)) (now (below .entry)) (now (start .entry)) (now (end .entry))) (columns (now (ty .exit)) (now (own .exit)) (now (label .exit)) (now (number .exit)) (now (first .exit)) (now (second .exit)) (now (place .exit)) (now (below .exit)) (now (start .exit)) (now (end .exit))) ⌝ }
 {
-    put_leaf(ty, own, label, number, place, start, end, lim, k, r);
     if k < lim {
+        put_leaf(ty, own, label, number, place, start, end, k, r);
         let first_now = r.first;
         first[k] = first_now;
         let second_now = r.second;
@@ -415,13 +412,14 @@ fn fill_value(
         Found::Unread => Step::Unread,
         Found::Leaf(row) => {
             let past = row.end;
-            put_leaf(ty, own, label, number, place, start, end, lim, k, row);
+            put_leaf(ty, own, label, number, place, start, end, k, row);
             Step::On(past as usize, k + 1)
         }
         Found::Holder(row, nest) => {
             if depth == 0 {
                 return Step::Unread;
             }
+            // `&*` makes the slice's descriptor for this call, and not for every value.
             fill_elements(
                 &*src,
                 ty,

@@ -12,19 +12,19 @@ use Rattle.format.specs.Values.{Value, Children, childOf, Form, Rule, counted, 
 use Rattle.format.specs.Rows.{count}
 use Rattle.decide.specs.Forms.{turn}
 use Rattle.decide.proofs.Forms.{turn-same, turn-next}
-use Rattle.decide.specs.Gates.{Gate, halt, ends, go, indexGate, gate, nextLow}
+use Rattle.decide.specs.Coming.{Coming, halt, ends, go, comingByIndex, coming, nextLow}
 use Rattle.measure.specs.Tally.{plus, valueRows, childRows, onward, rest}
 use Rattle.measure.specs.Plans.{OneForm}
-use Rattle.measure.proofs.Turns.{onGate, turns-none, turns-more, pairs-turn}
+use Rattle.measure.proofs.Turns.{onComing, turns-none, turns-more, pairs-turn}
 
--- what is counted at a gate, where `again` is still expected after the value
-abbrev pub countGate : Inner → Form → (ℕ → Rule) → ℕ → Gate → Out ℕ
-countGate inner f again rows (halt r) = stop r
-countGate inner f again rows (ends s) = got rows s
-countGate inner f again rows (go i s) = onward inner f (again i) rows s
+-- what is counted at what comes next, where `again` is still expected after the value
+abbrev pub countComing : Inner → Form → (ℕ → Rule) → ℕ → Coming → Out ℕ
+countComing inner f again rows (halt r) = stop r
+countComing inner f again rows (ends s) = got rows s
+countComing inner f again rows (go i s) = onward inner f (again i) rows s
 
-pub counted-turn : (inner : Inner) (r : Rule) (s : State) (f : Form) (again : ℕ → Rule) (g : Gate) (rows : ℕ)
-    → children inner r s ≡ onGate (each inner f) (λ i. children inner (again i)) g → plus rows (childRows inner r) s ≡ countGate inner f again rows g
+pub counted-turn : (inner : Inner) (r : Rule) (s : State) (f : Form) (again : ℕ → Rule) (g : Coming) (rows : ℕ)
+    → children inner r s ≡ onComing (each inner f) (λ i. children inner (again i)) g → plus rows (childRows inner r) s ≡ countComing inner f again rows g
 unfolding plus childRows valueRows onward _>>=_ return count
 counted-turn inner r s f again g rows h = rw h (by g)
   where
@@ -38,7 +38,7 @@ counted-turn inner r s f again g rows h = rw h (by g)
     one (got v t) i = last v (children inner (again i) t) i
     one (stop r) i = refl
 
-    by : (g : Gate) → follow (follow (onGate (each inner f) (λ i. children inner (again i)) g) (λ cs. return (count cs))) (λ m. return (rows + m)) ≡ countGate inner f again rows g
+    by : (g : Coming) → follow (follow (onComing (each inner f) (λ i. children inner (again i)) g) (λ cs. return (count cs))) (λ m. return (rows + m)) ≡ countComing inner f again rows g
     by (halt r) = refl
     by (ends s) = ap (λ (n : ℕ). got n s) (add-zero rows)
     by (go i s) = one (each inner f s) i
@@ -60,14 +60,14 @@ module _ (inner : Inner) where
   counted-none : (p : Bool) (f g : Form) (i rows : ℕ) (s : State) → plus rows (childRows inner (counted p f g 0 i)) s ≡ got rows s
   counted-none p f g i rows s = counted-turn inner (counted p f g 0 i) s f (λ _. counted p f g 0 i) (ends s) rows (turns-none inner p f g i s)
 
-  pub rest-gate : (x p : Bool) (f g : Form) (count low rows : ℕ) (s : State) → low ≤ count → OneForm x f g
-      → plus rows (childRows inner (rest x p f g count low)) s ≡ countGate inner (turn f g low) (λ j. rest x p f g count (nextLow x j low)) rows (gate x p count low s)
-  rest-gate true p f g count low rows s h e =
-      counted-turn inner (rising f count low) s f (λ i. rising f count (suc i)) (indexGate (s .at) count low (integer wide32 s)) rows (pairs-turn inner f count low s h)
-      ∙ ap (λ (y : Form). countGate inner y (λ i. rising f count (suc i)) rows (indexGate (s .at) count low (integer wide32 s))) (sym (ap (λ (z : Form). turn f z low) (sym e) ∙ turn-same f low))
-  rest-gate false p f g count low rows s h e = by (ltb low count) refl
+  pub rest-coming : (x p : Bool) (f g : Form) (count low rows : ℕ) (s : State) → low ≤ count → OneForm x f g
+      → plus rows (childRows inner (rest x p f g count low)) s ≡ countComing inner (turn f g low) (λ j. rest x p f g count (nextLow x j low)) rows (coming x p count low s)
+  rest-coming true p f g count low rows s h e =
+      counted-turn inner (rising f count low) s f (λ i. rising f count (suc i)) (comingByIndex (s .at) count low (integer wide32 s)) rows (pairs-turn inner f count low s h)
+      ∙ ap (λ (y : Form). countComing inner y (λ i. rising f count (suc i)) rows (comingByIndex (s .at) count low (integer wide32 s))) (sym (ap (λ (z : Form). turn f z low) (sym e) ∙ turn-same f low))
+  rest-coming false p f g count low rows s h e = by (ltb low count) refl
     where
-      by : (b : Bool) → ltb low count ≡ b → plus rows (childRows inner (rest false p f g count low)) s ≡ countGate inner (turn f g low) (λ j. rest false p f g count (suc low)) rows (cond b (go (label p low) s) (ends s))
+      by : (b : Bool) → ltb low count ≡ b → plus rows (childRows inner (rest false p f g count low)) s ≡ countComing inner (turn f g low) (λ j. rest false p f g count (suc low)) rows (cond b (go (label p low) s) (ends s))
       by true q =
           let l = ltb-true low count q in
           let m : count - low ≡ suc (count - suc low) = omega arith in

@@ -26,7 +26,7 @@ use Rattle.decide.specs.declared.Next.{Next}
 use Rattle.decide.specs.declared.Next.the-variants.{Value, End, Halt}
 use Rattle.decide.specs.Classes.{Is, ClassOf}
 use Rattle.decide.specs.Forms.{ownOf, TypedAt, turn}
-use Rattle.decide.specs.Gates.{nextLow, nextOut, pastNext, NextAt}
+use Rattle.decide.specs.Coming.{nextLow, nextOut, pastNext, NextAt}
 use Rattle.measure.specs.declared.Contents.{Contents}
 use Rattle.measure.specs.declared.Plan.{Plan}
 use Rattle.measure.specs.declared.Plan.the-variants.{Refuse, Single, Inner as Nested}
@@ -36,7 +36,7 @@ use Rattle.measure.specs.Tally.{plus, valueRows, childRows, opening, ins
 use Rattle.measure.specs.Identities.{given, ended, envOf, nameOf, one, Ids, Begun, Closed}
 use Rattle.measure.specs.Plans.{onceOf, Stands, judged, NestIs, PlanIs, ValuePlan}
 use Rattle.measure.specs.Cycle.{TooDeep, DeepAt, stepOut, Going, CanRead, HasRead, Standing, CanHold, HasHeld}
-use Rattle.measure.proofs.Counts.{countGate, rest-gate}
+use Rattle.measure.proofs.Counts.{countComing, rest-coming}
 use Rattle.measure.proofs.Heads.{headed, odd}
 
 -- ---- level 17
@@ -223,17 +223,17 @@ turning-first {n} can b = record {
 }
 
 module _ {o l₀ : List ℕ} {depth : ℕ} {x p : Bool} {count : ℕ} {w v : Form} {at₀ rows₀ : ℕ} {l : List ℕ} {at low rows : ℕ}
-    (turning : Turning o l₀ depth x p count w v at₀ rows₀ l at low rows) {g : Next} (gates : NextAt o x p count low at g) where
-  -- at the gate
-  at-gate : (f h : Forms) → Standing w v x f h
-      → plus rows₀ (childRows (dataOf depth) (rest x p f h count 0)) (stand o at₀ (envOf l₀)) ≡ countGate (dataOf depth) (turn f h low) (λ j. rest x p f h count (nextLow x j low)) rows (nextOut o (envOf l) g)
-  at-gate f h k =
-      turning .same f h k ∙ rest-gate (dataOf depth) x p f h count low rows (stand o at (envOf l)) (turning .apt) (k .alike)
-      ∙ ap (countGate (dataOf depth) (turn f h low) (λ j. rest x p f h count (nextLow x j low)) rows) (sym (gates .same (envOf l)))
+    (turning : Turning o l₀ depth x p count w v at₀ rows₀ l at low rows) {g : Next} (comes : NextAt o x p count low at g) where
+  -- at what comes next
+  at-next : (f h : Forms) → Standing w v x f h
+      → plus rows₀ (childRows (dataOf depth) (rest x p f h count 0)) (stand o at₀ (envOf l₀)) ≡ countComing (dataOf depth) (turn f h low) (λ j. rest x p f h count (nextLow x j low)) rows (nextOut o (envOf l) g)
+  at-next f h k =
+      turning .same f h k ∙ rest-coming (dataOf depth) x p f h count low rows (stand o at (envOf l)) (turning .apt) (k .alike)
+      ∙ ap (countComing (dataOf depth) (turn f h low) (λ j. rest x p f h count (nextLow x j low)) rows) (sym (comes .same (envOf l)))
 
   module _ {next j : ℕ} (e : g ≡ Value next j) where
     past : pastNext o x count low at (Value next j)
-    past = subst (pastNext o x count low at) e (gates .past)
+    past = subst (pastNext o x count low at) e (comes .past)
 
     pub low-fits : nextLow x j low < 2 ^ 32
     low-fits = omega (arith, past .3, turning .small)
@@ -257,7 +257,7 @@ module _ {o l₀ : List ℕ} {depth : ℕ} {x p : Bool} {count : ℕ} {w v : For
             → plus rows₀ (childRows (dataOf depth) (rest x p f h count 0)) (stand o at₀ (envOf l₀)) ≡ follow (stepOut o (envOf after) r) (λ k. plus k (childRows (dataOf depth) (rest x p f h count (nextLow x j low))))
         unfolding onward _>>=_
         after-value f h k =
-            at-gate f h k ∙ ap (λ (y : Next). countGate (dataOf depth) (turn f h low) (λ j. rest x p f h count (nextLow x j low)) rows (nextOut o (envOf l) y)) e
+            at-next f h k ∙ ap (λ (y : Next). countComing (dataOf depth) (turn f h low) (λ j. rest x p f h count (nextLow x j low)) rows (nextOut o (envOf l) y)) e
             ∙ ap (λ (y : Out ℕ). follow y (λ k. plus k (childRows (dataOf depth) (rest x p f h count (nextLow x j low))))) (sym (read .same (turn f h low) (rw is-turn (stands-turn low (k .first) (k .second)))))
 
         pub turning-again : {there more low' : ℕ} → r ≡ On there more → low' ≡ nextLow x j low → Turning o l₀ depth x p count w v at₀ rows₀ after there low' more
@@ -298,13 +298,13 @@ module _ {o l l₀ : List ℕ} {n : Contents} {before : ℕ} (depth : ℕ) (can 
 
   module _ {l' : List ℕ} {at low rows : ℕ}
       (turning : Turning o l₀ depth (n .nest .indexed) (n .nest .paired) (n .nest .count) (n .nest .form) (n .nest .other) (n .from) before l' at low rows)
-      {g : Next} (gates : NextAt o (n .nest .indexed) (n .nest .paired) (n .nest .count) low at g) where
-    gated : (f h : Forms) → Standing (n .nest .form) (n .nest .other) (n .nest .indexed) f h → {y : Next} → g ≡ y
-        → plus before (childRows (dataOf depth) (expects f h 0)) (stand o (n .from) (envOf l₀)) ≡ countGate (dataOf depth) (turn f h low) (λ j. expects f h (nextLow (n .nest .indexed) j low)) rows (nextOut o (envOf l') y)
-    gated f h k e = at-gate turning gates f h k ∙ ap (λ (y : Next). countGate (dataOf depth) (turn f h low) (λ j. expects f h (nextLow (n .nest .indexed) j low)) rows (nextOut o (envOf l') y)) e
+      {g : Next} (comes : NextAt o (n .nest .indexed) (n .nest .paired) (n .nest .count) low at g) where
+    counted-on : (f h : Forms) → Standing (n .nest .form) (n .nest .other) (n .nest .indexed) f h → {y : Next} → g ≡ y
+        → plus before (childRows (dataOf depth) (expects f h 0)) (stand o (n .from) (envOf l₀)) ≡ countComing (dataOf depth) (turn f h low) (λ j. expects f h (nextLow (n .nest .indexed) j low)) rows (nextOut o (envOf l') y)
+    counted-on f h k e = at-next turning comes f h k ∙ ap (λ (y : Next). countComing (dataOf depth) (turn f h low) (λ j. expects f h (nextLow (n .nest .indexed) j low)) rows (nextOut o (envOf l') y)) e
 
     pub held-halted : {r : Refusal} → g ≡ Halt r → HasHeld o l n before depth (Stop r) l'
-    held-halted {r} e = record { same = λ f h k. held-by f h (stop r) (gated f h k e); going = tt }
+    held-halted {r} e = record { same = λ f h k. held-by f h (stop r) (counted-on f h k e); going = tt }
 
     pub can-end : Ids l' × (ended l' + one (n .named) ≤ given l')
     can-end = (turning .good, omega (arith, turning .level, b .more, b .as-many, can .good .some))
@@ -312,16 +312,16 @@ module _ {o l l₀ : List ℕ} {n : Contents} {before : ℕ} (depth : ℕ) (can 
     pub held-ended : {next : ℕ} {after : List ℕ} → g ≡ End next → Closed l' (n .named) (n .id) after → HasHeld o l n before depth (On next rows) after
     unfolding leave _>>=_ return names rename stand
     held-ended {next} {after} e c =
-        let q = subst (pastNext o (n .nest .indexed) (n .nest .count) low at) e (gates .past) in
+        let q = subst (pastNext o (n .nest .indexed) (n .nest .count) low at) e (comes .past) in
         record {
-          same = λ f h k. ap (λ (z : Env). got rows (stand o next z)) (c .env-is) ∙ held-by f h (got rows (stand o next (envOf l'))) (gated f h k e);
+          same = λ f h k. ap (λ (z : Env). got rows (stand o next z)) (c .env-is) ∙ held-by f h (got rows (stand o next (envOf l'))) (counted-on f h k e);
           going = (omega (arith, turning .further, q .0), q .1, omega (arith, turning .few, q .0), c .good, omega (arith, turning .level, b .more, b .as-many, c .as-many, c .more));
         }
 
     pub held-stopped : {next j : ℕ} {t : Form} {r : Step} {after : List ℕ} {q : Refusal} → g ≡ Value next j → t ≡ turn (n .nest .form) (n .nest .other) low
         → HasRead o l' t next rows depth r after → r ≡ Stop q → HasHeld o l n before depth (Stop q) after
     held-stopped {next} {j} {t} {r} {after} {q} e u read d = record {
-      same = λ f h k. held-by f h (stop q) (after-value turning gates e u read f h k ∙ ap (λ (y : Step). follow (stepOut o (envOf after) y) (λ k. plus k (childRows (dataOf depth) (expects f h (nextLow (n .nest .indexed) j low))))) d);
+      same = λ f h k. held-by f h (stop q) (after-value turning comes e u read f h k ∙ ap (λ (y : Step). follow (stepOut o (envOf after) y) (λ k. plus k (childRows (dataOf depth) (expects f h (nextLow (n .nest .indexed) j low))))) d);
       going = tt;
     }
 

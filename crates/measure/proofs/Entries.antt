@@ -26,7 +26,7 @@ use Rattle.measure.specs.Identities.{given, ended, envOf, listed}
 use Rattle.measure.specs.Cycle.{stepOut, Going, Standing, CanHold, HasHeld}
 use Rattle.measure.specs.Plans.{contentsOf}
 use Rattle.measure.specs.Entries.{none, pastFirst, FirstAt, Outermost, answerOf, rowsNeeded}
-use Rattle.measure.proofs.Counts.{rest-gate, plus-zero}
+use Rattle.measure.proofs.Counts.{rest-coming, plus-zero}
 use Rattle.measure.proofs.Cycle.{inside-opened}
 
 -- no identities
@@ -57,12 +57,12 @@ one-inside : (inner : Inner) (f : Form) (o : List ℕ) (at : ℕ) (e : Env) → 
 unfolding onward _>>=_ leave names rename return
 one-inside inner f o at e =
     inside-opened inner silent 0 (rest false false f f 1 0) 0 o at e
-    ∙ ap (λ (x : Out ℕ). follow x (λ k. leave silent 0 >>= λ _. return k)) (rest-gate inner false false f f 1 0 0 (stand o at e) (omega arith) tt)
+    ∙ ap (λ (x : Out ℕ). follow x (λ k. leave silent 0 >>= λ _. return k)) (rest-coming inner false false f f 1 0 0 (stand o at e) (omega arith) tt)
     ∙ ap (λ (x : Out ℕ). follow (follow x (λ k. plus k (childRows inner (rest false false f f 1 1)))) (λ k. leave silent 0 >>= λ _. return k)) (plus-zero (valueRows (each inner f)) (stand o at e))
     ∙ by (valueRows (each inner f) (stand o at e))
   where
     by : (x : Out ℕ) → follow (follow x (λ k. plus k (childRows inner (rest false false f f 1 1)))) (λ k. leave silent 0 >>= λ _. return k) ≡ x
-    by (got n s) = ap (λ (x : Out ℕ). follow x (λ k. leave silent 0 >>= λ _. return k)) (rest-gate inner false false f f 1 1 n s (omega arith) tt)
+    by (got n s) = ap (λ (x : Out ℕ). follow x (λ k. leave silent 0 >>= λ _. return k)) (rest-coming inner false false f f 1 1 n s (omega arith) tt)
     by (stop r) = refl
 
 pub first-held : {o l after : List ℕ} {at : ℕ} {k : Nest} {r : Step} → k ≡ alikeNest Whole 1 false → Fresh l → HasHeld o l (contentsOf k at) 0 16 r after → FirstAt o at r

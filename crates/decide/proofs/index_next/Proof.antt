@@ -1,4 +1,4 @@
-use Rattle.decide.proofs.Gates.{index-faulty, index-end, index-below, index-low, index-high, index-value}
+use Rattle.decide.proofs.Coming.{index-faulty, index-end, index-below, index-low, index-high, index-value}
 use borrow.Author.Needs.{needs}
 use Rattle.decide.proofs.index_next.Statement.{statement}
 use Rattle.decide.proofs.index_next.Tie as tie

@@ -1,5 +1,5 @@
 use native.Mathlib.Omega.{arith}
-use Rattle.decide.proofs.Gates.{low-indexed, low-counted}
+use Rattle.decide.proofs.Coming.{low-indexed, low-counted}
 use Rattle.decide.proofs.low_after.Statement.{statement}
 use Rattle.decide.proofs.low_after.Tie as tie
 

@@ -1,4 +1,4 @@
-use Rattle.decide.proofs.Gates.{next-index, next-end, next-value}
+use Rattle.decide.proofs.Coming.{next-index, next-end, next-value}
 use borrow.Author.Needs.{needs}
 use Rattle.decide.proofs.next_at.Statement.{statement}
 use Rattle.decide.proofs.next_at.Tie as tie

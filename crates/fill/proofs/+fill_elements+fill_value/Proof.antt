@@ -229,7 +229,7 @@ fill-value-enum-known-row : (t : ℕ) → fill-value-lts.Need-enum-known-row (fi
 fill-value-enum-known-row t c = c .match .keys2
 
 fill-value-put-leaf-requires : (t : ℕ) → fill-value-lts.Need-put-leaf-requires (fill-value-claims t) (fill-value-at t) fill-value.Post
-fill-value-put-leaf-requires t c κs = leaf-room (c .before .before .before .before .before .before .before .before .before .before .before .before .before .before .before .before .before .before .before .pre .1 .room)
+fill-value-put-leaf-requires t c κs = leaf-room (c .before .before .before .before .before .before .before .before .before .before .before .if1 .left) (c .before .before .before .before .before .before .before .before .before .before .before .before .before .before .before .before .before .before .before .pre .1 .room)
 
 fill-value-cast-t40 : (t : ℕ) → fill-value-lts.Need-cast-t40 (fill-value-claims t) (fill-value-at t) fill-value.Post
 fill-value-cast-t40 t c = record { fits = leaf-end (c .before .before .before .before .before .before .before .before .before .before .before .before .before .before .before .before .before .before .before .before .before .before .before .row-at .ensures) (c .before .before .before .before .before .before .before .before .before .before .before .before .before .before .before .before .before .before .before .before .before .row .given .1) (c .before .before .before .before .before .before .before .before .before .before .before .before .before .before .before .before .before .before .before .before .before .before .before .before .before .before .before .before .before .before .before .before .pre .1) }
@@ -277,7 +277,7 @@ fill-value-same-length-7 : (t : ℕ) → fill-value-lts.Need-same-length-7 (fill
 fill-value-same-length-7 t c = c .before .before .before .before .before .before .before .before .before .before .before .before .put-leaf .kept .1 .1 .1 .1 .1 .1 .0
 
 fill-value-returns-4 : (t : ℕ) → fill-value-lts.Need-returns-4 (fill-value-claims t) (fill-value-at t) fill-value.Post
-fill-value-returns-4 t c = value-leaf (c .before .before .before .before .before .before .before .before .before .before .before .before .before .before .before .before .before .before .before .before .before .before .before .row-at .ensures) (c .before .before .before .before .before .before .before .before .before .before .before .before .before .before .before .before .before .before .before .before .before .row .given .1) (c .before .before .before .before .before .before .before .before .before .before .before .before .before .before .before .before .before .before .before .before .before .before .before .before .if1 .left) (leaf-in-blank (c .before .before .before .before .before .before .before .before .before .before .before .before .put-leaf .ensures))
+fill-value-returns-4 t c = value-leaf (c .before .before .before .before .before .before .before .before .before .before .before .before .before .before .before .before .before .before .before .before .before .before .before .row-at .ensures) (c .before .before .before .before .before .before .before .before .before .before .before .before .before .before .before .before .before .before .before .before .before .row .given .1) (c .before .before .before .before .before .before .before .before .before .before .before .before .before .before .before .before .before .before .before .before .before .before .before .before .if1 .left) (leaf-in-blank (c .before .before .before .before .before .before .before .before .before .before .before .before .before .before .before .before .before .before .before .before .before .before .before .before .if1 .left) (c .before .before .before .before .before .before .before .before .before .before .before .before .put-leaf .ensures))
 
 fill-value-same-length-8 : (t : ℕ) → fill-value-lts.Need-same-length-8 (fill-value-claims t) (fill-value-at t) fill-value.Post
 fill-value-same-length-8 t c = c .before .before .before .before .before .before .before .before .before .before .before .before .before .before .before .before .fill-elements .kept .1 .0

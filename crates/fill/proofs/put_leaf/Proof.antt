@@ -1,6 +1,6 @@
 use mir.ValLaws.{toZ-ofZ}
 use mir.Syntax.{w64, w32}
-use Rattle.fill.proofs.Columns.{leaf-below, leaf-beyond}
+use Rattle.fill.proofs.Columns.{leaf-set}
 use borrow.Author.Needs.{needs}
 use Rattle.fill.proofs.put_leaf.Statement.{statement}
 use Rattle.fill.proofs.put_leaf.Tie as tie
@@ -68,10 +68,7 @@ same-length-7 : tie.Need-same-length-7
 same-length-7 c = search needs
 
 returns : tie.Need-returns
-returns c = leaf-below (c .before .before .if1 .taken) (toZ-ofZ w32 _ (record { sfits = c .struct-told2 .given .0 .1 })) (toZ-ofZ w64 _ (record { sfits = c .struct-told2 .given .1 .1 .1 .0 .1 }))
-
-returns-2 : tie.Need-returns-2
-returns-2 c = leaf-beyond (c .if1 .left)
+returns c = leaf-set (toZ-ofZ w32 _ (record { sfits = c .struct-told2 .given .0 .1 })) (toZ-ofZ w64 _ (record { sfits = c .struct-told2 .given .1 .1 .1 .0 .1 }))
 
 pub put-leaf-spec : {M : Type 1} → statement M
 put-leaf-spec =
@@ -97,5 +94,4 @@ put-leaf-spec =
     same-length-5
     same-length-6
     same-length-7
-    returns
-    returns-2)
+    returns)

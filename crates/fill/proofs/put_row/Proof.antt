@@ -10,7 +10,7 @@ use Rattle.fill.proofs.put_row.Lts as lts
 use Rattle.fill.proofs.put_leaf.Reads as put-leaf-reads
 
 put-leaf-requires : tie.Need-put-leaf-requires
-put-leaf-requires c κs = leaf-room (c .before .before .before .before .before .before .before .before .before .before .before .before .before .pre)
+put-leaf-requires c κs = leaf-room (c .before .before .before .before .before .before .before .if1 .taken) (c .before .before .before .before .before .before .before .before .before .before .before .before .before .before .pre)
 
 mul-first-now : tie.Need-mul-first-now
 mul-first-now c = search needs
@@ -22,13 +22,13 @@ mul-second-now : tie.Need-mul-second-now
 mul-second-now c = mul-first-now (c .before)
 
 slice-set-from-second-now : tie.Need-slice-set-from-second-now
-slice-set-from-second-now c = omega (arith, c .before .before .if1 .taken, c .before .before .before .before .before .before .before .before .before .before .before .before .before .before .before .before .before .before .before .before .before .before .before .before .before .before .before .before .before .pre .second-room)
+slice-set-from-second-now c = omega (arith, c .before .before .before .before .before .before .before .before .before .before .before .before .before .before .before .before .before .before .before .before .before .before .if1 .taken, c .before .before .before .before .before .before .before .before .before .before .before .before .before .before .before .before .before .before .before .before .before .before .before .before .before .before .before .before .before .pre .second-room)
 
 mul-below : tie.Need-mul-below
 mul-below c = mul-first-now (c .before)
 
 slice-write-below : tie.Need-slice-write-below
-slice-write-below c = omega (arith, c .before .before .if1 .taken, c .before .before .before .before .before .before .before .before .before .before .before .before .before .before .before .before .before .before .before .before .before .before .before .before .before .before .before .before .before .pre .below-room)
+slice-write-below c = omega (arith, c .before .before .before .before .before .before .before .before .before .before .before .before .before .before .before .before .before .before .before .before .before .before .if1 .taken, c .before .before .before .before .before .before .before .before .before .before .before .before .before .before .before .before .before .before .before .before .before .before .before .before .before .before .before .before .before .pre .below-room)
 
 same-length : tie.Need-same-length
 same-length c = search needs
@@ -61,31 +61,10 @@ same-length-10 : tie.Need-same-length-10
 same-length-10 c = search needs
 
 returns : tie.Need-returns
-returns c = row-below (c .before .before .before .before .before .before .before .before .before .before .before .before .before .before .before .put-leaf .ensures) (c .before .before .if1 .taken) (toZ-ofZ w32 _ (record { sfits = c .struct-told2 .given .1 .1 .1 .1 .0 .1 })) (toZ-ofZ w32 _ (record { sfits = c .struct-told2 .given .1 .1 .1 .1 .1 .0 .1 }))
-
-same-length-11 : tie.Need-same-length-11
-same-length-11 c = search needs
-
-same-length-12 : tie.Need-same-length-12
-same-length-12 c = search needs
-
-same-length-13 : tie.Need-same-length-13
-same-length-13 c = search needs
-
-same-length-14 : tie.Need-same-length-14
-same-length-14 c = search needs
-
-same-length-15 : tie.Need-same-length-15
-same-length-15 c = search needs
-
-same-length-16 : tie.Need-same-length-16
-same-length-16 c = search needs
-
-same-length-17 : tie.Need-same-length-17
-same-length-17 c = search needs
+returns c = row-below (c .before .before .before .before .before .before .before .before .before .before .before .before .before .before .before .before .before .before .before .before .before .before .if1 .taken) (c .before .before .before .before .before .before .before .before .before .before .before .before .before .before .put-leaf .ensures) (toZ-ofZ w32 _ (record { sfits = c .struct-told2 .given .1 .1 .1 .1 .0 .1 })) (toZ-ofZ w32 _ (record { sfits = c .struct-told2 .given .1 .1 .1 .1 .1 .0 .1 }))
 
 returns-2 : tie.Need-returns-2
-returns-2 c = row-beyond (c .before .before .before .before .before .before .before .before .before .before .before .before .before .put-leaf .ensures) (c .if1 .left)
+returns-2 c = row-beyond (c .if1 .left)
 
 pub put-row-spec : {M : Type 1} → statement M
 put-row-spec =
@@ -109,11 +88,4 @@ put-row-spec =
     same-length-9
     same-length-10
     returns
-    same-length-11
-    same-length-12
-    same-length-13
-    same-length-14
-    same-length-15
-    same-length-16
-    same-length-17
     returns-2)

@@ -15,13 +15,13 @@ use Rattle.integer.specs.Answers.{outSigned, pastSigned, ReadsSigned}
 use Rattle.format.specs.Values.{label}
 use Rattle.decide.specs.declared.Next.{Next}
 use Rattle.decide.specs.declared.Next.the-variants.{Value, End, Halt}
-use Rattle.decide.specs.Gates.{indexGate, gate, nextLow, NextAt, IndexNext}
+use Rattle.decide.specs.Coming.{comingByIndex, coming, nextLow, NextAt, IndexNext}
 
 module _ {o : List ℕ} {at : ℕ} {x : Signed} (reads : ReadsSigned o at x) where
   -- by the index that was read
-  by-index : (top low : ℕ) (paired : Bool) (e : Env) → gate true paired top low (stand o at e) ≡ indexGate at top low (outSigned o e x)
+  by-index : (top low : ℕ) (paired : Bool) (e : Env) → coming true paired top low (stand o at e) ≡ comingByIndex at top low (outSigned o e x)
   unfolding stand
-  by-index top low paired e = ap (indexGate at top low) (sym (reads .same e))
+  by-index top low paired e = ap (comingByIndex at top low) (sym (reads .same e))
 
 module _ {o : List ℕ} {top low at : ℕ} {x : Signed} (reads : ReadsSigned o at x) where
   pub index-faulty : {r : Refusal} → x ≡ Faulty r → IndexNext o top low at (Halt r)

@@ -16,22 +16,22 @@ use Rattle.decide.specs.declared.Next.{Next}
 use Rattle.decide.specs.declared.Next.the-variants.{Value, End, Halt}
 
 -- whether a value follows: a refusal, the end, or a value with its label; and the state there
-pub data Gate : Type 0 where
-  halt : Refusal → Gate
-  ends : State → Gate
-  go : ℕ → State → Gate
+pub data Coming : Type 0 where
+  halt : Refusal → Coming
+  ends : State → Coming
+  go : ℕ → State → Coming
 
 -- by the index that was read at p
-abbrev pub indexGate : ℕ → ℕ → ℕ → Out ℤ → Gate
-indexGate p top low (stop r) = halt r
-indexGate p top low (got z s) =
+abbrev pub comingByIndex : ℕ → ℕ → ℕ → Out ℤ → Coming
+comingByIndex p top low (stop r) = halt r
+comingByIndex p top low (got z s) =
     cond (eqZ z (negsuc 0)) (ends s)
     (cond (nonNeg z) (cond (leb low (mag z)) (cond (ltb (mag z) top) (go (mag z) s) (halt (refusal 5 p))) (halt (refusal 5 p))) (halt (refusal 5 p)))
 
 -- with indexes (x), `count` is what they stay below and `low` the least that may come; else so many values, and the position of the next
-abbrev pub gate : Bool → Bool → ℕ → ℕ → State → Gate
-gate true paired count low s = indexGate (s .at) count low (integer wide32 s)
-gate false paired count low s = cond (ltb low count) (go (label paired low) s) (ends s)
+abbrev pub coming : Bool → Bool → ℕ → ℕ → State → Coming
+coming true paired count low s = comingByIndex (s .at) count low (integer wide32 s)
+coming false paired count low s = cond (ltb low count) (go (label paired low) s) (ends s)
 
 -- `low` after a value with label j
 abbrev pub nextLow : Bool → ℕ → ℕ → ℕ
@@ -39,7 +39,7 @@ nextLow x j low = cond x (suc j) (suc low)
 
 -- ---- as the code answers
 
-abbrev pub nextOut : List ℕ → Env → Next → Gate
+abbrev pub nextOut : List ℕ → Env → Next → Coming
 nextOut o e (Value next j) = go j (stand o next e)
 nextOut o e (End next) = ends (stand o next e)
 nextOut o e (Halt r) = halt r
@@ -51,7 +51,7 @@ pastNext o x count low at (End next) = (at ≤ next) × (next ≤ length o)
 pastNext o x count low at (Halt r) = Unit {0}
 
 pub record NextAt (o : List ℕ) (x paired : Bool) (count low at : ℕ) (r : Next) : Type 0 where
-  pub same : (e : Env) → nextOut o e r ≡ gate x paired count low (stand o at e)
+  pub same : (e : Env) → nextOut o e r ≡ coming x paired count low (stand o at e)
   pub past : pastNext o x count low at r
 
 -- with indexes, whatever the flag of pairs
