@@ -11,7 +11,7 @@ use Rattle.format.specs.declared.Row.{Row}
 use Rattle.format.specs.Desk.{feed}
 use Rattle.format.specs.Message.{Answer, ok, refused, then, readMessage, readFrame}
 use Rattle.format.specs.Writing.{Table, tabled}
-use Rattle.fill.specs.Columns.{Roomy, Filled}
+use Rattle.columns.specs.Columns.{Roomy, Filled}
 use Rattle.measure.specs.declared.Measured.{Measured}
 use Rattle.measure.specs.declared.Measured.the-variants.{Amount, Refused}
 use Rattle.measure.specs.Entries.{answerOf}

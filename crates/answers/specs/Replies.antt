@@ -4,7 +4,7 @@ use mathlib.Core.List.{List}
 use Prim.Native.Nat.{ℕ, _+_, _*_, _≤_}
 use lib.ListN.{length}
 use Rattle.format.specs.Writing.{Table, tabled}
-use Rattle.fill.specs.Columns.{Roomy}
+use Rattle.columns.specs.Columns.{Roomy}
 use Rattle.integer.specs.Writes.{Wrote}
 use Rattle.listing.specs.Listing.{Listed}
 use Rattle.replies.specs.Cases.{Reply, rowParts, lent}

@@ -1,7 +1,7 @@
 ghost use Prim.Native.Nat.{_+_, _*_, _≤_};
 ghost use lib.ListN.{length};
 ghost use Rattle.format.specs.Message.{readMessage, readFrame};
-ghost use Rattle.fill.specs.Columns.{columns, Roomy};
+ghost use Rattle.columns.specs.Columns.{columns, Roomy};
 ghost use Rattle.replies.specs.Cases.{reply, messageRows, frameRows, lent, octetsReply, caseReply};
 ghost use Rattle.answers.specs.Replies.{Lent, Begins, PartsFit, PartsPut};
 use frame::Framed;

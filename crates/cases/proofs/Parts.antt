@@ -6,7 +6,7 @@ use native.Mathlib.Omega.{arith}
 use lib.ListN.{length, take}
 use lib.Seq.{length-take-le}
 use Rattle.format.specs.Writing.{Table}
-use Rattle.fill.specs.Columns.{Kept}
+use Rattle.columns.specs.Columns.{Kept}
 use Rattle.answers.specs.Replies.{Lent}
 
 pub part-within : (n : ℕ) (l : List ℕ) {u : ℕ} → n ≤ length l → u ≤ length (take n l) → u ≤ n

@@ -2,7 +2,7 @@
 ghost use mathlib.Core.Path.{_≡_};
 ghost use Prim.Native.Nat.{_+_, _*_, _^_, _≤_, _<_};
 ghost use lib.ListN.{length};
-ghost use Rattle.fill.specs.Columns.{columns};
+ghost use Rattle.columns.specs.Columns.{columns};
 ghost use Rattle.answers.specs.Replies.{Lent};
 ghost use Rattle.cases.specs.Turns.{Going};
 

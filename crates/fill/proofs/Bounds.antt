@@ -13,10 +13,10 @@ use Rattle.decide.specs.Coming.{nextLow, pastNext, NextAt}
 use Rattle.fill.specs.declared.Found.{Found}
 use Rattle.fill.specs.declared.Found.the-variants.{Leaf, Holder}
 use Rattle.fill.specs.declared.Step.{Step}
-use Rattle.fill.specs.Columns.{Kept, Stored}
+use Rattle.columns.specs.Columns.{Kept, Stored}
 use Rattle.fill.specs.Rows.{pastFound, RowAt}
 use Rattle.fill.specs.Filling.{Ready, FilledValue}
-use Rattle.fill.proofs.Columns.{roomy}
+use Rattle.columns.proofs.Columns.{roomy}
 use Rattle.fill.proofs.Elements.{Turn}
 
 pub rises : (d : ℕ) {t : ℕ} → 2 * d + 1 ≡ t → 2 * d < t

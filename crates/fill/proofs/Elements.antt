@@ -20,13 +20,13 @@ use Rattle.decide.specs.Forms.{turn}
 use Rattle.decide.specs.Coming.{nextLow, pastNext, NextAt}
 use Rattle.fill.specs.declared.Step.{Step}
 use Rattle.fill.specs.declared.Step.the-variants.{On, Unread}
-use Rattle.fill.specs.Columns.{Kept, Stored, putRow, Blank, puts}
+use Rattle.columns.specs.Columns.{Kept, Stored, putRow, Blank, puts}
 use Rattle.fill.specs.Numbers.{Begins}
 use Rattle.fill.specs.Rows.{nestOf}
 use Rattle.fill.specs.Filling.{Fillable, Within, Fit, closed, Ready, Advanced, FilledValue, FilledElements}
 use Rattle.fill.proofs.Begins.{begins-left, begins-right, moved}
 use Rattle.fill.proofs.Following.{follows, ended}
-use Rattle.fill.proofs.Columns.{kept-same, kept-trans, puts-append, blank-after}
+use Rattle.columns.proofs.Columns.{kept-same, kept-trans, puts-append, blank-after}
 use Rattle.fill.proofs.Values.{rows-count}
 
 -- the values still to come, of those (cs) that stand from `from` on: what is left to do comes to the same

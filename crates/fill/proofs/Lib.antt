@@ -5,8 +5,6 @@ pub mod Contained
 pub mod Classes
 pub mod Following
 pub mod Rows
-pub mod Columns
-pub mod Cleared
 pub mod Values
 pub mod Elements
 pub mod Bounds

@@ -20,13 +20,13 @@ use Rattle.fill.specs.declared.Found.{Found}
 use Rattle.fill.specs.declared.Found.the-variants.{Leaf, Holder, Unread as NoRow}
 use Rattle.fill.specs.declared.Step.{Step}
 use Rattle.fill.specs.declared.Step.the-variants.{On, Unread}
-use Rattle.fill.specs.Columns.{Stored, putRow, Blank, puts}
+use Rattle.columns.specs.Columns.{Stored, putRow, Blank, puts, Single}
 use Rattle.fill.specs.Numbers.{Begins}
 use Rattle.decide.specs.Forms.{nestWith}
-use Rattle.fill.specs.Rows.{nestBy, nestOf, foundBy, frontRow, Single, pastFound, RowAt}
+use Rattle.fill.specs.Rows.{nestBy, nestOf, foundBy, frontRow, pastFound, RowAt}
 use Rattle.fill.specs.Filling.{Fillable, Within, Fit, closed, Advanced, FilledValue, FilledElements}
 use Rattle.fill.proofs.Begins.{begins-left, begins-right, moved}
-use Rattle.fill.proofs.Columns.{blank-later}
+use Rattle.columns.proofs.Columns.{blank-later}
 
 -- ---- rows and spelling, by what the code keeps of a container
 

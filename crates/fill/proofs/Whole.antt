@@ -17,12 +17,12 @@ use Rattle.laws.proofs.Rows.{alone-spelt}
 use Rattle.decide.specs.declared.Form.the-variants.{Whole}
 use Rattle.decide.specs.declared.Nest.{Nest}
 use Rattle.fill.specs.declared.Step.{Step}
-use Rattle.fill.specs.Columns.{columns, Roomy, putRow, cleared, Blank, puts, Filled}
+use Rattle.columns.specs.Columns.{columns, Roomy, putRow, cleared, Blank, puts, Filled}
 use Rattle.fill.specs.Numbers.{Begins}
 use Rattle.decide.specs.Forms.{nestWith}
 use Rattle.fill.specs.Filling.{FilledElements, FilledIn}
-use Rattle.fill.proofs.Columns.{puts-filled}
-use Rattle.fill.proofs.Cleared.{cleared-blank, filled-cleared}
+use Rattle.columns.proofs.Columns.{puts-filled}
+use Rattle.columns.proofs.Cleared.{cleared-blank, filled-cleared}
 use Rattle.fill.proofs.Values.{rows-count}
 use Rattle.fill.proofs.Accepted.{valid-fillable}
 

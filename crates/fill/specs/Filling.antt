@@ -17,7 +17,7 @@ use Rattle.decide.specs.Forms.{turn}
 use Rattle.decide.specs.Coming.{nextLow}
 use Rattle.fill.specs.declared.Step.{Step}
 use Rattle.fill.specs.declared.Step.the-variants.{On, Unread}
-use Rattle.fill.specs.Columns.{Roomy, putRow, Blank, puts, Filled}
+use Rattle.columns.specs.Columns.{Roomy, putRow, Blank, puts, Filled}
 use Rattle.fill.specs.Numbers.{Begins, Stands}
 use Rattle.fill.specs.Rows.{nestOf, Dated, Follows, Ended}
 

@@ -1,4 +1,3 @@
-pub mod Columns
 pub mod Numbers
 pub mod Rows
 pub mod Filling

@@ -12,6 +12,7 @@ use Rattle.format.specs.Values.{Head, Children, empty, child, Value, label}
 use Rattle.format.specs.Spelling.{dataBy, fore, spellChildren}
 use Rattle.format.specs.Grammar.{Good, Moment}
 use Rattle.format.specs.Rows.{hasContents, rowOf}
+use Rattle.columns.specs.Columns.{Single}
 use Rattle.decide.specs.declared.Form.{Form}
 use Rattle.decide.specs.declared.Form.the-variants.{Whole, Named, Bare}
 use Rattle.decide.specs.declared.Nest.{Nest}
@@ -113,10 +114,6 @@ foundBy indexes r n = HolderRow r n
 foundBy properties r n = HolderRow r n
 foundBy one r n = HolderRow r n
 foundBy (parts d) r n = HolderRow r n
-
--- a row without element types and rows below
-abbrev pub Single : Row → Type 0
-Single r = (r .first ≡ pos 0) × (r .second ≡ pos 0) × (r .below ≡ 0)
 
 abbrev pub pastFound : List ℕ → ℕ → Found → Type 0
 pastFound o at (LeafRow r) = (at ≤ r .end) × (r .end ≤ length o) × Single r

@@ -16,7 +16,7 @@ use Rattle.format.specs.Desk.{rowText, rowsText, printed, isLine, octetsOf, lin
 use Rattle.format.specs.Writing.{Table, rowAt, tabled}
 use Rattle.integer.specs.Writes.{Room, Wrote}
 use Rattle.laws.proofs.Theorems.{read-frame-exactly}
-use Rattle.fill.specs.Columns.{Roomy, Filled}
+use Rattle.columns.specs.Columns.{Roomy, Filled}
 use Rattle.message.specs.Messages.{shortest, Holds}
 use Rattle.message.proofs.Messages.{same-refused, same-ok}
 use Rattle.frame.specs.declared.FramePlace.{FramePlace}

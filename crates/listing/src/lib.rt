@@ -2,7 +2,7 @@ ghost use Prim.Native.Nat.{_+_, _≤_};
 ghost use lib.ListN.{length};
 ghost use Rattle.format.specs.Desk.{printed, lineText};
 ghost use Rattle.format.specs.Message.{readFrame};
-ghost use Rattle.fill.specs.Columns.{columns, Roomy};
+ghost use Rattle.columns.specs.Columns.{columns, Roomy};
 ghost use Rattle.listing.specs.Listing.{Fits, RowsListed, Listed, LinesListed};
 use frame::Framed;
 use reading::Refusal;

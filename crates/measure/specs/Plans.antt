@@ -5,7 +5,7 @@ use mathlib.Core.List.{List}
 use Prim.Native.Nat.{ℕ, suc, _+_, _^_, _<_, _≤_}
 use lib.ListN.{length}
 use lib.IntN.{ℤ}
-use Rattle.reading.specs.Reading.{Out, got, stop, Reader, stand, require}
+use Rattle.reading.specs.Reading.{Out, got, stop, Reader, stand, _>>=_, _>>_, require}
 use Rattle.format.specs.Types.{kindOf}
 use Rattle.format.specs.Values.{Value, whole, bare, Inner, may, each, dataOf}
 use Rattle.format.specs.Values.{Form as Forms}

@@ -21,7 +21,7 @@ use Rattle.laws.proofs.Theorems.{accepted-exactly, rows-count}
 use Rattle.measure.specs.declared.Measured.{Measured}
 use Rattle.measure.specs.declared.Measured.the-variants.{Amount, Refused}
 use Rattle.measure.specs.Entries.{answerOf, rowsNeeded}
-use Rattle.fill.specs.Columns.{Roomy}
+use Rattle.columns.specs.Columns.{Roomy}
 use Rattle.fill.specs.Filling.{Ready, FilledIn}
 use Rattle.message.specs.Messages.{least, leastOf, shortest, Holds, counted, MessageRead, RowsStored}
 

@@ -14,7 +14,7 @@ use Rattle.format.specs.Writing.{Table}
 use Rattle.format.specs.Message.{Answer, ok, refused, unless, then, withinRows, readMessage}
 use Rattle.measure.specs.declared.Measured.{Measured}
 use Rattle.measure.specs.Entries.{answerOf}
-use Rattle.fill.specs.Columns.{Filled}
+use Rattle.columns.specs.Columns.{Filled}
 
 abbrev pub least : ℕ → ℕ → ℕ
 least a b = cond (leb a b) a b

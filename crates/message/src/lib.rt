@@ -1,7 +1,7 @@
 ghost use mathlib.Core.Path.{_≡_};
 ghost use Prim.Native.Nat.{_^_, _<_};
 ghost use lib.ListN.{length};
-ghost use Rattle.fill.specs.Columns.{columns};
+ghost use Rattle.columns.specs.Columns.{columns};
 ghost use Rattle.message.specs.Messages.{least, leastOf, RowsStored, MessageRead};
 use measure::Measured;
 use reading::Refusal;

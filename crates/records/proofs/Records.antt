@@ -17,7 +17,7 @@ use Rattle.format.specs.Asking.{ask, lookup}
 use Rattle.format.specs.Writing.{Table, rowAt, tabled}
 use Rattle.message.specs.Messages.{shortest}
 use Rattle.message.proofs.Messages.{room-for}
-use Rattle.fill.specs.Columns.{Roomy, over, Filled}
+use Rattle.columns.specs.Columns.{Roomy, over, Filled}
 use Rattle.format.specs.Rows.{Sized}
 use Rattle.records.specs.Records.{RowOf, LabelAt, rowsIn}
 

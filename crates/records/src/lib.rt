@@ -1,5 +1,5 @@
 ghost use Prim.Native.Nat.{_+_};
-ghost use Rattle.fill.specs.Columns.{columns, Roomy};
+ghost use Rattle.columns.specs.Columns.{columns, Roomy};
 ghost use Rattle.records.specs.Records.{RowOf, LabelAt, rowsIn};
 ghost use mathlib.Core.Path.{_≡_};
 ghost use Prim.Native.Nat.{_≤_};

@@ -3,7 +3,7 @@
 ghost use mathlib.Core.Path.{_≡_};
 ghost use Rattle.format.specs.Message.{measure as lengthOf};
 ghost use Rattle.measure.specs.Entries.{answerOf, rowsNeeded};
-ghost use Rattle.fill.specs.Columns.{columns};
+ghost use Rattle.columns.specs.Columns.{columns};
 ghost use Rattle.frame.specs.Frames.{answerOf as framed, needs};
 ghost use Rattle.ask.specs.Outcomes.{answered};
 ghost use Rattle.sumqadil.specs.Told.{Counted, MessageTold, Opened, FrameTold, Valued, askBy, AskedBy};

@@ -1,7 +1,7 @@
 use Prim.Native.Nat.{_≤_, _-_}
 use native.Mathlib.Omega.{arith}
 use Rattle.text.proofs.Writes.{wrote-kept}
-use Rattle.fill.specs.Columns.{columns}
+use Rattle.columns.specs.Columns.{columns}
 use Rattle.records.proofs.Records.{row-room}
 use Rattle.answers.specs.Replies.{PartsPut}
 use Rattle.answers.proofs.Parts.{parts-none, part-room, parts-again, parts-all}

@@ -3,7 +3,7 @@ use mathlib.Core.Path.{_≡_, refl, _∙_}
 use native.Mathlib.Omega.{arith}
 use lib.ListN.{length}
 use borrow.Author.Needs.{needs}
-use Rattle.fill.specs.Columns.{columns, Kept}
+use Rattle.columns.specs.Columns.{columns, Kept}
 use Rattle.cases.proofs.Parts.{kept-all, lent-kept}
 use Rattle.cases.proofs.answer_all.Statement.{statement}
 use Rattle.cases.proofs.answer_all.Tie as tie

@@ -4,7 +4,7 @@ use native.Mathlib.Omega.{arith}
 use lib.ListN.{length}
 use lib.Seq.{length-take-le}
 use borrow.Author.Needs.{needs}
-use Rattle.fill.specs.Columns.{columns, Kept}
+use Rattle.columns.specs.Columns.{columns, Kept}
 use Rattle.cases.proofs.Parts.{part-within, part-fits, part-under, kept-all, lent-kept}
 use Rattle.cases.proofs.answer_input.Statement.{statement}
 use Rattle.cases.proofs.answer_input.Tie as tie

@@ -1,8 +1,8 @@
 use borrow.Author.Needs.{needs}
 use Prim.Native.Nat.{_+_, _-_, _*_}
 use mathlib.Core.Path.{refl, _∙_}
-use Rattle.fill.specs.Columns.{columns}
-use Rattle.fill.proofs.Columns.{roomy, leaf-room, leaf-in-blank}
+use Rattle.columns.specs.Columns.{columns}
+use Rattle.columns.proofs.Columns.{roomy, leaf-room, leaf-in-blank}
 use Rattle.fill.proofs.Values.{value-crowded, value-unread, value-leaf, value-deep, value-holder}
 use Rattle.fill.proofs.Elements.{Turn, turn-first, turn-less, turn-again, elements-unread, elements-end, elements-stop}
 use Rattle.fill.proofs.Bounds.{leaf-end, rises, sinks, take-one, one-row, holder-ready, stored-as, turned, turn-ends, turn-ready, turn-low, turn-more}
@@ -19,8 +19,8 @@ use Rattle.decide.proofs.low_after.Reads as low-after-reads
 use Rattle.decide.proofs.next_at.Reads as next-at-reads
 use Rattle.decide.proofs.turn_of.Reads as turn-of-reads
 use Rattle.fill.proofs.closed_row.Reads as closed-row-reads
-use Rattle.fill.proofs.put_leaf.Reads as put-leaf-reads
-use Rattle.fill.proofs.put_row.Reads as put-row-reads
+use Rattle.columns.proofs.put_leaf.Reads as put-leaf-reads
+use Rattle.columns.proofs.put_row.Reads as put-row-reads
 use Rattle.fill.proofs.row_at.Reads as row-at-reads
 use Rattle.fill.proofs.+fill_elements+fill_value.{statement}
 use Rattle.fill.proofs.+fill_elements+fill_value.Tie.{close}

@@ -1,5 +1,5 @@
 use mathlib.Core.Path.{refl, _∙_}
-use Rattle.fill.proofs.Columns.{kept-three, roomy}
+use Rattle.columns.proofs.Columns.{kept-three, roomy}
 use Rattle.fill.proofs.Bounds.{ready-kept}
 use Rattle.fill.proofs.Whole.{filled-whole, one-count}
 use borrow.Author.Needs.{needs}
@@ -8,8 +8,8 @@ use Rattle.fill.proofs.fill.Tie as tie
 use Rattle.fill.proofs.fill.Reads as reads
 use Rattle.fill.proofs.fill.Lts as lts
 use Rattle.decide.proofs.alike.Reads as alike-reads
-use Rattle.fill.proofs.clear_counts.Reads as clear-counts-reads
-use Rattle.fill.proofs.clear_types.Reads as clear-types-reads
+use Rattle.columns.proofs.clear_counts.Reads as clear-counts-reads
+use Rattle.columns.proofs.clear_types.Reads as clear-types-reads
 use Rattle.fill.proofs.fill_elements.Reads as fill-elements-reads
 
 clear-types-requires : tie.Need-clear-types-requires

@@ -1,7 +1,7 @@
 use Prim.Native.Nat.{_≤_, _-_}
 use native.Mathlib.Omega.{arith}
 use Rattle.text.proofs.Writes.{wrote-kept}
-use Rattle.fill.specs.Columns.{columns}
+use Rattle.columns.specs.Columns.{columns}
 use Rattle.listing.specs.Listing.{RowsListed}
 use Rattle.listing.proofs.Listing.{rowed-none, rowed-room, rowed-again, rowed-all}
 use Rattle.records.proofs.Records.{row-room}

@@ -1,5 +1,5 @@
 use mathlib.Core.Path.{_∙_}
-use Rattle.fill.specs.Columns.{columns}
+use Rattle.columns.specs.Columns.{columns}
 use Rattle.message.proofs.Messages.{is-shortest}
 use Rattle.records.proofs.Records.{row-asked, no-row, shortest-room, labels-room}
 use borrow.Author.Needs.{needs}

@@ -13,8 +13,7 @@ use lib.Dec.{ltb}
 use lib.IntN.{ℤ, pos}
 use Rattle.format.specs.declared.Row.{Row}
 use Rattle.format.specs.Writing.{Table}
-use Rattle.fill.specs.Columns.{columns, Roomy, Kept, put, putRow, Stored, seven, LeafRoom, LeafStored, Blank, puts, over, Filled}
-use Rattle.fill.specs.Rows.{Single}
+use Rattle.columns.specs.Columns.{columns, Roomy, Kept, put, putRow, Stored, seven, LeafRoom, LeafStored, Single, Blank, puts, over, Filled}
 
 pub kept-same : {t : Table} → Kept t t
 kept-same = record { ty-kept = refl; own-kept = refl; label-kept = refl; number-kept = refl; first-kept = refl; second-kept = refl; place-kept = refl; below-kept = refl; start-kept = refl; end-kept = refl }

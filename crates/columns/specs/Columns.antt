@@ -75,6 +75,10 @@ pub record LeafStored (k : ℕ) (r : Row) (t t' : Table) : Type 0 where
   pub start-stored : t' .start ≡ set (t .start) k (r .start)
   pub end-stored : t' .end ≡ set (t .end) k (r .end)
 
+-- a row without element types and rows below
+abbrev pub Single : Row → Type 0
+Single r = (r .first ≡ pos 0) × (r .second ≡ pos 0) × (r .below ≡ 0)
+
 -- the other three have 0 from row k on: to store it there changes nothing
 pub record Blank (lim k : ℕ) (t : Table) : Type 0 where
   pub first-blank : (i : ℕ) → k ≤ i → put lim (t .first) i (pos 0) ≡ t .first

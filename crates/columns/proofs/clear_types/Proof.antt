@@ -1,11 +1,11 @@
 use Prim.Native.Nat.{_-_}
 use borrow.Author.Needs.{needs}
 use lib.IntN.{pos}
-use Rattle.fill.proofs.Cleared.{Clearing, clearing-first, clearing-more, clearing-done}
-use Rattle.fill.proofs.clear_types.Statement.{statement}
-use Rattle.fill.proofs.clear_types.Tie as tie
-use Rattle.fill.proofs.clear_types.Reads as reads
-use Rattle.fill.proofs.clear_types.Lts as lts
+use Rattle.columns.proofs.Cleared.{Clearing, clearing-first, clearing-more, clearing-done}
+use Rattle.columns.proofs.clear_types.Statement.{statement}
+use Rattle.columns.proofs.clear_types.Tie as tie
+use Rattle.columns.proofs.clear_types.Reads as reads
+use Rattle.columns.proofs.clear_types.Lts as lts
 
 abbrev Inv-loop : tie.InvT-loop
 Inv-loop col₀ n i₀ col i = Clearing n (pos 0) col₀ col i

@@ -11,7 +11,7 @@ use lib.Dec.{T, ltb, ltb→lt}
 use lib.IntN.{ℤ, pos}
 use Rattle.format.specs.declared.Row.{Row}
 use Rattle.format.specs.Writing.{Table}
-use Rattle.fill.specs.Columns.{columns, put, cleared, Blank, over, Filled}
+use Rattle.columns.specs.Columns.{columns, put, cleared, Blank, over, Filled}
 
 module _ {A : Type 0} where
   clear-more : (i : ℕ) (l : List A) (z : A) → i < length l → set (cleared i z l) i z ≡ cleared (suc i) z l

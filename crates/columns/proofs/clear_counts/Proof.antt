@@ -1,10 +1,10 @@
 use Prim.Native.Nat.{_-_}
 use borrow.Author.Needs.{needs}
-use Rattle.fill.proofs.Cleared.{Clearing, clearing-first, clearing-more, clearing-done}
-use Rattle.fill.proofs.clear_counts.Statement.{statement}
-use Rattle.fill.proofs.clear_counts.Tie as tie
-use Rattle.fill.proofs.clear_counts.Reads as reads
-use Rattle.fill.proofs.clear_counts.Lts as lts
+use Rattle.columns.proofs.Cleared.{Clearing, clearing-first, clearing-more, clearing-done}
+use Rattle.columns.proofs.clear_counts.Statement.{statement}
+use Rattle.columns.proofs.clear_counts.Tie as tie
+use Rattle.columns.proofs.clear_counts.Reads as reads
+use Rattle.columns.proofs.clear_counts.Lts as lts
 
 abbrev Inv-loop : tie.InvT-loop
 Inv-loop col₀ n i₀ col i = Clearing n 0 col₀ col i

@@ -1,11 +1,11 @@
 use mir.ValLaws.{toZ-ofZ}
 use mir.Syntax.{w64, w32}
-use Rattle.fill.proofs.Columns.{leaf-set}
+use Rattle.columns.proofs.Columns.{leaf-set}
 use borrow.Author.Needs.{needs}
-use Rattle.fill.proofs.put_leaf.Statement.{statement}
-use Rattle.fill.proofs.put_leaf.Tie as tie
-use Rattle.fill.proofs.put_leaf.Reads as reads
-use Rattle.fill.proofs.put_leaf.Lts as lts
+use Rattle.columns.proofs.put_leaf.Statement.{statement}
+use Rattle.columns.proofs.put_leaf.Tie as tie
+use Rattle.columns.proofs.put_leaf.Reads as reads
+use Rattle.columns.proofs.put_leaf.Lts as lts
 
 mul-ty-now : tie.Need-mul-ty-now
 mul-ty-now c = search needs

@@ -1,13 +1,13 @@
 use mir.ValLaws.{toZ-ofZ}
 use mir.Syntax.{w32}
 use native.Mathlib.Omega.{arith}
-use Rattle.fill.proofs.Columns.{leaf-room, row-below, row-beyond}
+use Rattle.columns.proofs.Columns.{leaf-room, row-below, row-beyond}
 use borrow.Author.Needs.{needs}
-use Rattle.fill.proofs.put_row.Statement.{statement}
-use Rattle.fill.proofs.put_row.Tie as tie
-use Rattle.fill.proofs.put_row.Reads as reads
-use Rattle.fill.proofs.put_row.Lts as lts
-use Rattle.fill.proofs.put_leaf.Reads as put-leaf-reads
+use Rattle.columns.proofs.put_row.Statement.{statement}
+use Rattle.columns.proofs.put_row.Tie as tie
+use Rattle.columns.proofs.put_row.Reads as reads
+use Rattle.columns.proofs.put_row.Lts as lts
+use Rattle.columns.proofs.put_leaf.Reads as put-leaf-reads
 
 put-leaf-requires : tie.Need-put-leaf-requires
 put-leaf-requires c κs = leaf-room (c .before .before .before .before .before .before .before .if1 .taken) (c .before .before .before .before .before .before .before .before .before .before .before .before .before .before .pre)
