@@ -1,6 +1,6 @@
 // Answers cases, a line each, from standard input to standard output.
 ghost use mathlib.Core.Path.{_≡_};
-ghost use Prim.Native.Nat.{_+_, _*_, _^_, _≤_, _<_};
+ghost use Prim.Native.Nat.{_*_, _^_, _≤_, _<_};
 ghost use lib.ListN.{length};
 ghost use Rattle.columns.specs.Columns.{columns};
 ghost use Rattle.answers.specs.Replies.{Lent};

@@ -52,11 +52,12 @@ pub record Stored (lim k : ℕ) (r : Row) (t t' : Table) : Type 0 where
 abbrev pub cleared : {A : Type 0} → ℕ → A → List A → List A
 cleared n z l = replicate n z ++ drop n l
 
--- ---- seven columns: in the other three, element types and rows below, only containers have more than 0
+-- ---- seven columns: in the other three, element types and rows below, only values that hold others have a number other than 0
 
 abbrev pub seven : List ℤ → List ℕ → List ℕ → List ℤ → List ℕ → List ℕ → List ℕ → Table
 seven x0 x1 x2 x3 x6 x8 x9 = columns x0 x1 x2 x3 [] [] x6 [] x8 x9
 
+-- each of the seven has a row k
 pub record LeafRoom (k : ℕ) (t : Table) : Type 0 where
   pub ty-room : k < length (t .ty)
   pub own-room : k < length (t .own)
@@ -66,6 +67,7 @@ pub record LeafRoom (k : ℕ) (t : Table) : Type 0 where
   pub start-room : k < length (t .start)
   pub end-room : k < length (t .end)
 
+-- the row's numbers stand at k in the seven, and all else is as it was
 pub record LeafStored (k : ℕ) (r : Row) (t t' : Table) : Type 0 where
   pub ty-stored : t' .ty ≡ set (t .ty) k (r .ty)
   pub own-stored : t' .own ≡ set (t .own) k (r .own)

@@ -30,7 +30,8 @@ pub fn clear_counts(col: &mut [u32], n: usize)
     }
 }
 
-// Stores a row in seven columns: all but element types and rows below, where a row that is no container's has the 0 that stands there.
+// Stores a row in seven columns: all but element types and rows below. The row of a value that holds no others has 0 in those three, and 0 stands
+// there already.
 pub fn put_leaf(
     ty: &mut [i32],
     own: &mut [u8],
@@ -56,7 +57,7 @@ pub fn put_leaf(
     end[k] = r.end;
 }
 
-// Stores a row in the columns, if its place is below the limit.
+// Stores a row in the columns at k, if that is below the limit.
 pub fn put_row(
     ty: &mut [i32],
     own: &mut [u8],

@@ -1,5 +1,5 @@
 // The desk: lists the frames of lines, from standard input to standard output.
-ghost use Prim.Native.Nat.{_+_, _≤_, _<_};
+ghost use Prim.Native.Nat.{_≤_, _<_};
 ghost use lib.ListN.{length};
 ghost use Rattle.desk.specs.Turns.{Within, Going};
 use reading::Refusal;

@@ -57,13 +57,13 @@ abbrev pub Advanced : List ℕ → ℕ → ℕ → ℕ → Step → Type 0
 Advanced o lim at k (On next rows) = (at ≤ next) × (next ≤ length o) × (k ≤ rows) × (rows ≤ lim)
 Advanced o lim at k Unread = Unit {0}
 
--- a value with label i, from `at` on: its rows stand from k on
+-- a value with label i, from `at` on: its rows stand from k on, where the three cleared columns had 0 from there on
 pub record FilledValue (o : List ℕ) (lim : ℕ) (form : Form) (i at k d : ℕ) (t : Table) (r : Step) (t' : Table) : Type 0 where
   pub advanced : Advanced o lim at (suc k) r
   pub same : (h : Head) (cs : Children) → Fit d form h cs → Begins o at (spell (value h cs)) → k + suc (count cs) ≤ lim → Blank lim k t
       → (r ≡ On (at + length (spell (value h cs))) (k + suc (count cs))) × (t' ≡ puts lim t k (rowsFrom false at (child i h cs empty)))
 
--- the values of a container whose row, up to them, is given and belongs at k: their rows stand from `base` on
+-- the values of a container whose row, up to them, is given and belongs at k: their rows stand from `base` on, likewise
 pub record FilledElements (o : List ℕ) (lim : ℕ) (row : Row) (n : Nest) (k base d : ℕ) (t : Table) (r : Step) (t' : Table) : Type 0 where
   pub advanced : Advanced o lim (row .end) base r
   pub same : (cs : Children) → Fillable d n 0 cs → Begins o (row .end) (spellChildren (n .indexed) cs) → base + count cs ≤ lim → Blank lim base t

@@ -445,8 +445,8 @@ fn fill_elements(
     }
 }
 
-// Fills in the rows of an accepted message: its outermost value is read as the one value of a container whose own row, at the limit, is not
-// stored. One level more than a message has, for the integers of a date or time.
+// Fills in the rows of an accepted message, of which there are `lim`. The columns in which only values that hold others store a number are cleared first.
+// The outermost value is read as the one value of a container whose own row, at the limit, is not stored. One level more than a message has, for the integers of a date or time.
 pub fn fill(
     src: &[u8],
     ty: &mut [i32],

@@ -4,21 +4,23 @@ use mathlib.Core.Bool.{Bool, true, false, cond, not}
 use mathlib.Core.List.{List}
 use Prim.Native.Nat.{ℕ, zero, suc, _+_, _-_, _*_, _/_, _%_, _^_, _<_, _≤_}
 use native.Mathlib.Omega.{arith}
-use native.Mathlib.Nat.{mul-add, mul-assoc, mul-le-mul-left, pow-suc, pow-succ', pow-le-pow-right, one-le-pow, le-trans}
+use native.Mathlib.Nat.{mul-add, mul-assoc, mul-le-mul-left, pow-succ', pow-le-pow-right, one-le-pow, le-trans}
 use lib.ListN.{length, getD}
+use lib.Count.{trailingZeros}
 use lib.Dec.{ltb, eqb, lit<, lit≤}
 use lib.IntN.{ℤ}
-use borrow.Author.Tests.{ltb-true, lt-ltb, le-ltb, eq-eqb, ne-eqb}
+use borrow.Author.Tests.{ltb-true, lt-ltb, le-ltb}
 use Rattle.reading.specs.declared.Refusal.{Refusal}
 use Rattle.reading.specs.Reading.{Env, State, Out, got, stop, Reader, refusal, stand, follow, _>>=_, return, require, refuse, either, here}
 use Rattle.reading.proofs.Places.{octet-at, octet-end}
 use Rattle.integer.specs.Packed.{Width, wide64, further, sign, positive, integer}
+use Rattle.integer.proofs.Windows.{marks, low-octet, ends-one, ends-few, ends-first, ends-held}
 use Rattle.integer.specs.declared.Read64.{Read64}
 use Rattle.integer.specs.declared.Read64.the-variants.{Int64}
-use Rattle.integer.specs.declared.Few.{Few}
 use Rattle.integer.specs.declared.Magnitude.{Magnitude}
 use Rattle.integer.specs.declared.Magnitude.the-variants.{Mag, Ill}
-use Rattle.integer.specs.Answers.{tail, magOut, pastMag, Tail, joinedOf, gate, fewOf, also, Also, few, FewAt, Reads64, Knows64}
+use Rattle.integer.specs.Windows.{little, ends, lead, sevens, sevensAt, Ending}
+use Rattle.integer.specs.Answers.{tail, magOut, pastMag, Tail, joinedOf, Reads64, Knows64}
 
 -- ---- the octets after the first, where m is what those before them hold and c the worth of the next
 
@@ -150,112 +152,70 @@ module _ {o : List ℕ} {at more bits scale next left : ℕ} (turn : Turn o at m
 pub turn-over : {o : List ℕ} {at more bits scale next : ℕ} → Turn o at more bits scale next 0 → (e : Env) → further more at (stand o (at + 1) e) ≡ stop (refusal 3 at)
 turn-over {o} {at} {more} {bits} {scale} {next} turn e = turn .same e ∙ scaled-none bits scale at (stand o next e)
 
--- ---- some octets at once
+-- ---- the octets after the first, where one of them ends the integer
 
-pub gated-is : (c n : ℕ) → c ≤ 1 → (c * n ≡ gate c n) × (c * n ≤ n)
-gated-is zero n h = (omega arith, omega arith)
-gated-is (suc zero) n h = (omega arith, omega arith)
-gated-is (suc (suc c)) n h = absurd (omega arith)
-
--- the j octets from `at + 1` to `next` have been looked at: all are continued, or the integer ends with one of them; k more may follow
-pub record Looked (o : List ℕ) (at more j k next : ℕ) (f : Few) : Type 0 where
-  pub all : j + k ≡ more
-  pub there : next ≡ at + 1 + j
-  pub flag : f .more ≤ 1
-  pub on : f .more ≡ 1 → (f .count ≡ j) × ((e : Env) → further more at (stand o (at + 1) e) ≡ scaled (f .bits) (128 ^ j) k at (stand o next e))
-  pub off : f .more ≡ 0 → (0 < f .count) × (f .count ≤ j)
-      × ((e : Env) → further more at (stand o (at + 1) e) ≡ lastly at (getD o (at + f .count) 0) (got (f .bits) (stand o (at + f .count + 1) e)))
-
-pub looked-none : (o : List ℕ) (at more : ℕ) → Looked o at more 0 more (at + 1) (fewOf 1 0 0)
-looked-none o at more = record {
-  all = omega arith;
-  there = omega arith;
-  flag = lit≤ tt;
-  on = λ _. (refl, λ e. scaled-start more at (stand o (at + 1) e));
-  off = λ e. absurd (omega arith);
-}
-
-also-on : (f : Few) (w b : ℕ) → f .more ≡ 1 → also f w b ≡ fewOf (b / 128) (f .count + 1) (f .bits + w * (b % 128))
-also-on f w b h = ap (λ (t : Bool). cond t (fewOf (b / 128) (f .count + 1) (f .bits + w * (b % 128))) f) (eq-eqb (f .more) 1 h)
-
-also-off : (f : Few) (w b : ℕ) → f .more ≡ 0 → also f w b ≡ f
-also-off f w b h = ap (λ (t : Bool). cond t (fewOf (b / 128) (f .count + 1) (f .bits + w * (b % 128))) f) (ne-eqb (f .more) 1 (λ e. omega arith))
-
-same-few : {m m' k k' n n' : ℕ} → m ≡ m' → k ≡ k' → n ≡ n' → fewOf m k n ≡ fewOf m' k' n'
-same-few p q r = cc
-
--- as the code computes it, by flags
-pub also-is : (f : Few) (w b x y : ℕ) → f .more ≤ 1 → b < 256 → x ≡ gate (f .more) (b / 128) → y ≡ gate (f .more) (b % 128)
-    → Also f w b (fewOf x (f .count + f .more) (f .bits + w * y))
-also-is f w b x y h small ex ey = by (f .more) refl h
-  where
-    by : (c : ℕ) → f .more ≡ c → c ≤ 1 → Also f w b (fewOf x (f .count + f .more) (f .bits + w * y))
-    by zero e g =
-        let x0 : x ≡ 0 = ex ∙ rw e in
-        let y0 : y ≡ 0 = ey ∙ rw e in
-        let held : f .bits + w * y ≡ f .bits = rw y0 (omega arith) in
-        record { same = same-few (x0 ∙ sym e) (omega arith) held ∙ sym (also-off f w b e); flag = omega arith; few = omega arith; held = omega arith }
-    by (suc zero) e g =
-        let x1 : x ≡ b / 128 = ex ∙ rw e in
-        let y1 : y ≡ b % 128 = ey ∙ rw e in
-        let held : f .bits + w * y ≡ f .bits + w * (b % 128) = rw y1 in
-        record { same = same-few x1 (omega arith) held ∙ sym (also-on f w b e); flag = omega arith; few = omega arith; held = omega (arith, mul-le-mul-left {m = y} {n = 127} w (omega arith)) }
-    by (suc (suc c)) e g = absurd (omega arith)
-
-module _ {o : List ℕ} {at more j k next : ℕ} {f : Few} (h : next < length o) (small : getD o next 0 < 256) (seen : Looked o at more j (suc k) next f) where
-  pub looked-more : (w : ℕ) → w ≡ 128 ^ j → Looked o at more (suc j) k (next + 1) (also f w (getD o next 0))
-  looked-more w is = by (f .more) refl (seen .flag)
+module _ (o : List ℕ) (n : ℕ) (e : Env) (more p : ℕ) where
+  pub further-last : n < length o → getD o n 0 < 128 → further (suc more) p (stand o n e) ≡ lastly p (getD o n 0) (got (getD o n 0) (stand o (n + 1) e))
+  unfolding _>>=_ further either require return
+  further-last h g = rw (octet-at o n e h, lt-ltb (getD o n 0) 128 g, either) (by (eqb (getD o n 0) 0))
     where
-      to : (g : Few) → also f w (getD o next 0) ≡ g → Looked o at more (suc j) k (next + 1) g → Looked o at more (suc j) k (next + 1) (also f w (getD o next 0))
-      to g e l = subst (Looked o at more (suc j) k (next + 1)) (sym e) l
+      by : (t : Bool) → follow (require (not t) 3 p (stand o (n + 1) e)) (λ _. return (getD o n 0)) ≡ cond t (stop (refusal 3 p)) (got (getD o n 0) (stand o (n + 1) e))
+      by true = refl
+      by false = refl
 
-      by : (c : ℕ) → f .more ≡ c → c ≤ 1 → Looked o at more (suc j) k (next + 1) (also f w (getD o next 0))
-      by zero e g = to f (also-off f w _ e) (record {
-        all = omega (arith, seen .all);
-        there = omega (arith, seen .there);
-        flag = seen .flag;
-        on = λ z. absurd (omega arith);
-        off = λ z. let t = seen .off z in (t .0, omega (arith, t .1), t .2);
-      })
-      by (suc zero) e g = let t = seen .on e in to _ (also-on f w _ e) (record {
-        all = omega (arith, seen .all);
-        there = omega (arith, seen .there);
-        flag = omega arith;
-        on = λ z. (omega (arith, t .0), λ x. t .1 x ∙ scaled-more o next x (f .bits) (128 ^ j) k at h (omega arith) ∙ rw (is, pow-suc 128 j));
-        off = λ z.
-            let place : at + (f .count + 1) ≡ next = omega (arith, t .0, seen .there) in
-            let low : getD o next 0 % 128 ≡ getD o next 0 = omega arith in
-            (omega arith, omega (arith, t .0), λ x. t .1 x ∙ scaled-last o next x (f .bits) (128 ^ j) k at h (omega arith) ∙ rw (place, is, low));
-      })
-      by (suc (suc c)) e g = absurd (omega arith)
+  further-on : n < length o → 128 ≤ getD o n 0 → further (suc more) p (stand o n e) ≡ follow (further more p (stand o (n + 1) e)) (λ m. return (getD o n 0 % 128 + 128 * m))
+  unfolding _>>=_ further either
+  further-on h g = rw (octet-at o n e h, le-ltb (getD o n 0) 128 g, either)
 
--- four octets
-looked-four : (o : List ℕ) (at more : ℕ) → 4 ≤ more → at + 5 ≤ length o → ((i : ℕ) → getD o i 0 < 256)
-    → Looked o at more 4 (more - 4) (at + 5) (few (getD o (at + 1) 0) (getD o (at + 2) 0) (getD o (at + 3) 0) (getD o (at + 4) 0))
-looked-four o at more h g small =
-    let left : more ≡ suc (suc (suc (suc (more - 4)))) = omega arith in
-    let none = subst (λ (k : ℕ). Looked o at more 0 k (at + 1) (fewOf 1 0 0)) left (looked-none o at more) in
-    let one = step 1 (at + 1) (at + 2) (omega arith) refl (omega arith) none in
-    let two = step 128 (at + 2) (at + 3) (omega arith) refl (omega arith) one in
-    let three = step 16384 (at + 3) (at + 4) (omega arith) refl (omega arith) two in
-    step 2097152 (at + 4) (at + 5) (omega arith) refl (omega arith) three
-  where
-    step : {j k : ℕ} {f : Few} (w next to : ℕ) → next < length o → w ≡ 128 ^ j → next + 1 ≡ to → Looked o at more j (suc k) next f → Looked o at more (suc j) k to (also f w (getD o next 0))
-    step {j} {k} {f} w next to l is e seen = subst (λ (n : ℕ). Looked o at more (suc j) k n (also f w (getD o next 0))) e (looked-more l (small next) seen w is)
-
-pub few-made : {o : List ℕ} {at : ℕ} {r1 r2 r3 r4 : Few} → Also (fewOf 1 0 0) 1 (getD o (at + 1) 0) r1 → Also r1 128 (getD o (at + 2) 0) r2
-    → Also r2 16384 (getD o (at + 3) 0) r3 → Also r3 2097152 (getD o (at + 4) 0) r4 → FewAt o at r4
-few-made {o} {at} e1 e2 e3 e4 = record {
-  same = e4 .same ∙ ap (λ (f : Few). also f 2097152 (getD o (at + 4) 0)) (e3 .same ∙ ap (λ (f : Few). also f 16384 (getD o (at + 3) 0)) (e2 .same ∙ ap (λ (f : Few). also f 128 (getD o (at + 2) 0)) (e1 .same)));
-  few-are = omega (arith, e1 .few, e2 .few, e3 .few, e4 .few);
-  held = omega (arith, e1 .held, e2 .held, e3 .held, e4 .held);
+pub ending-after : {o : List ℕ} {n k : ℕ} → Ending o n (suc k) → Ending o (n + 1) k
+ending-after {o} {n} {k} r = record {
+  on = λ j h. let z : n + 1 + j ≡ n + suc j = omega arith in rw z (r .on (suc j) (omega arith));
+  off = let z : n + 1 + k ≡ n + suc k = omega arith in rw z (r .off);
 }
 
-pub few-joined : {o : List ℕ} {at more b bound : ℕ} {f : Few} {r : Magnitude} → 4 ≤ more → at + 5 ≤ length o → ((i : ℕ) → getD o i 0 < 256) → FewAt o at f → f .more ≡ 0
-    → r ≡ joinedOf at b (f .bits) (getD o (at + f .count) 0) (at + f .count + 1) bound → Tail more bound o at b r
-few-joined {o} {at} {more} {b} {bound} {f} {r} h g small e z q =
-    let ended = (subst (Looked o at more 4 (more - 4) (at + 5)) (sym (e .same)) (looked-four o at more h g small)) .off z in
-    tail-joined more bound o at b (f .bits) (getD o (at + f .count) 0) (at + f .count + 1) r (ended .2) (omega arith) (omega (arith, ended .1)) q
+-- they hold seven bits each, and the last of them mustn't be 0
+pub further-ends : (o : List ℕ) (k more p n : ℕ) → k < more → n + k < length o → Ending o n k → (e : Env)
+    → further more p (stand o n e) ≡ lastly p (getD o (n + k) 0) (got (sevensAt (suc k) o n) (stand o (n + k + 1) e))
+unfolding sevensAt return
+further-ends o k zero p n h g r e = absurd (omega arith)
+further-ends o zero (suc more) p n h g r e =
+    let here : n + 0 ≡ n = omega arith in
+    let off : getD o n 0 < 128 = rw here at (r .off) in
+    let low : getD o n 0 % 128 + 128 * 0 ≡ getD o n 0 = omega arith in
+    rw (here, low) (further-last o n e more p (omega arith) off)
+further-ends o (suc k) (suc more) p n h g r e =
+    let there : n + 1 + k ≡ n + suc k = omega arith in
+    let here : n + 0 ≡ n = omega arith in
+    further-on o n e more p (omega arith) (rw here at (r .on 0 (omega arith)))
+    ∙ ap (λ (x : Out ℕ). follow x (λ m. return (getD o n 0 % 128 + 128 * m))) (rw there at (further-ends o k more p (n + 1) (omega arith) (omega arith) (ending-after r) e))
+    ∙ by (eqb (getD o (n + suc k) 0) 0)
+  where
+    by : (t : Bool) → follow (cond t (stop (refusal 3 p)) (got (sevensAt (suc k) o (n + 1)) (stand o (n + suc k + 1) e))) (λ m. return (getD o n 0 % 128 + 128 * m))
+        ≡ cond t (stop (refusal 3 p)) (got (getD o n 0 % 128 + 128 * sevensAt (suc k) o (n + 1)) (stand o (n + suc k + 1) e))
+    by true = refl
+    by false = refl
+
+-- the last of them bounds what they hold
+pub sevens-below : (o : List ℕ) (k n : ℕ) → getD o (n + k) 0 < 128 → sevensAt (suc k) o n < 128 ^ k * (getD o (n + k) 0 + 1)
+unfolding sevensAt
+sevens-below o zero n h = let here : n + 0 ≡ n = omega arith in rw here (omega arith)
+sevens-below o (suc k) n h =
+    let there : n + 1 + k ≡ n + suc k = omega arith in
+    let below : sevensAt (suc k) o (n + 1) < 128 ^ k * (getD o (n + suc k) 0 + 1) = rw there at (sevens-below o k (n + 1) (rw there h)) in
+    rw (pow-succ' 128 k, mul-assoc 128 (128 ^ k) (getD o (n + suc k) 0 + 1)) (omega (arith, below))
+
+-- n of an integer whose last octet is k octets after the second
+pub tail-ends : {o : List ℕ} {at more b bound k bits : ℕ} {r : Magnitude} → k < more → at + 1 + k < length o → Ending o (at + 1) k → bits ≡ sevensAt (suc k) o (at + 1)
+    → r ≡ joinedOf at b bits (getD o (at + 1 + k) 0) (at + 1 + k + 1) bound → Tail more bound o at b r
+tail-ends {o} {at} {more} {b} {bound} {k} {bits} {r} h g end held q =
+    tail-joined more bound o at b bits (getD o (at + 1 + k) 0) (at + 1 + k + 1) r (λ x. rw held (further-ends o k more at (at + 1) h g end x)) (omega arith) (omega arith) q
+
+-- the same by eight octets at once
+pub tail-word : (o : List ℕ) (at : ℕ) {w e k more b bound bits : ℕ} {r : Magnitude} → ((i : ℕ) → getD o i 0 < 256) → at + 9 ≤ length o
+    → w ≡ little 8 o (at + 1) → e ≡ ends 8 w → (e ≡ 0 → ⊥) → k ≡ trailingZeros 64 e / 8 → k < more → bits ≡ sevens (suc (lead 8 w)) w
+    → r ≡ joinedOf at b bits (getD o (at + 1 + k) 0) (at + 1 + k + 1) bound → Tail more bound o at b r
+tail-word o at small room word is ne first h held q =
+    tail-ends h (omega (arith, ends-few o (at + 1) small word is ne first)) (ends-first o (at + 1) small word is ne first) (ends-held o (at + 1) small word is ne first held) q
 
 -- ---- the whole integer
 
@@ -309,19 +269,49 @@ knows reads = record { same = λ e z s h. reads .same e ∙ h; past = reads .pas
 no-stop : {r : Refusal} {z : ℤ} {s : State} → _≡_ {A = Out ℤ} (stop r) (got z s) → ⊥
 no-stop h = let z : _≡_ {A = ℕ} 0 1 = cc in omega arith
 
-pub few-known : {o : List ℕ} {at : ℕ} {f : Few} {y : ℤ} → at + 5 ≤ length o → ((i : ℕ) → getD o i 0 < 256) → 128 ≤ getD o at 0 → FewAt o at f → f .more ≡ 0
-    → y ≡ sign (positive (getD o at 0)) (getD o at 0 % 64 + 64 * f .bits) → Knows64 o at (Int64 (at + f .count + 1) y)
-unfolding return
-few-known {o} {at} {f} {y} h small k few z q =
-    let t = few-joined {more = 9} {b = getD o at 0} {bound = 2 ^ 63} (omega arith) h small few z refl in
-    record {
-      same = λ e v s g. by e v s (eqb (getD o (at + f .count) 0) 0) (ltb (getD o at 0 % 64 + 64 * f .bits) (2 ^ 63)) (sym (found {w = wide64} t (omega arith) k e) ∙ g);
-      past = (omega arith, omega (arith, few .few-are));
-    }
-  where
-    by : (e : Env) (v : ℤ) (s : State) (a b : Bool)
-        → follow (magOut o e (cond a (Ill (refusal 3 at)) (cond b (Mag (at + f .count + 1) (getD o at 0 % 64 + 64 * f .bits)) (Ill (refusal 3 at))))) (λ n. return (sign (positive (getD o at 0)) n)) ≡ got v s
-        → got y (stand o (at + f .count + 1) e) ≡ got v s
-    by e v s true b g = absurd (no-stop g)
-    by e v s false true g = ap (λ (x : ℤ). got x (stand o (at + f .count + 1) e)) q ∙ g
-    by e v s false false g = absurd (no-stop g)
+module _ {o : List ℕ} {at : ℕ} {y : ℤ} (h : at + 8 ≤ length o) where
+  known-one : getD o at 0 < 128 → y ≡ sign (positive (getD o at 0)) (getD o at 0 % 64) → Knows64 o at (Int64 (at + 1) y)
+  known-one g q = knows (record { same = λ e. told q (integer-one wide64 o at e (lit≤ tt) (omega arith) g); past = (omega arith, omega arith) })
+
+  known-more : (k n : ℕ) → k < 7 → 128 ≤ getD o at 0 → Ending o (at + 1) k → n ≡ getD o at 0 % 64 + 64 * sevensAt (suc k) o (at + 1) → y ≡ sign (positive (getD o at 0)) n
+      → Knows64 o at (Int64 (at + 1 + k + 1) y)
+  unfolding return
+  known-more k n few g end held q =
+      let t = tail-ends {more = 9} {b = getD o at 0} {bound = 2 ^ 63} (omega arith) (omega arith) end refl refl in
+      record {
+        same = λ e v s f. by e v s (eqb (getD o (at + 1 + k) 0) 0) (ltb (getD o at 0 % 64 + 64 * sevensAt (suc k) o (at + 1)) (2 ^ 63)) (sym (found {w = wide64} t (omega arith) g e) ∙ f);
+        past = (omega arith, omega arith);
+      }
+    where
+      by : (e : Env) (v : ℤ) (s : State) (a b : Bool)
+          → follow (magOut o e (cond a (Ill (refusal 3 at)) (cond b (Mag (at + 1 + k + 1) (getD o at 0 % 64 + 64 * sevensAt (suc k) o (at + 1))) (Ill (refusal 3 at))))) (λ n. return (sign (positive (getD o at 0)) n)) ≡ got v s
+          → got y (stand o (at + 1 + k + 1) e) ≡ got v s
+      by e v s true b f = absurd (no-stop f)
+      by e v s false true f = ap (λ (x : ℤ). got x (stand o (at + 1 + k + 1) e)) (q ∙ ap (sign (positive (getD o at 0))) held) ∙ f
+      by e v s false false f = absurd (no-stop f)
+
+  known-ends : (k : ℕ) {bits : ℕ} → k < 8 → Ending o at k → bits ≡ sevensAt (suc k) o at → y ≡ sign (positive (getD o at 0)) (bits % 64 + bits / 128 * 64) → Knows64 o at (Int64 (at + k + 1) y)
+  unfolding sevensAt
+  known-ends zero {bits} few end held q =
+      let here : at + 0 ≡ at = omega arith in
+      let low : bits % 64 + bits / 128 * 64 ≡ getD o at 0 % 64 = omega arith in
+      rw here (known-one (rw here at (end .off)) (q ∙ ap (sign (positive (getD o at 0))) low))
+  known-ends (suc k) {bits} few end held q =
+      let here : at + 0 ≡ at = omega arith in
+      let there : at + suc k ≡ at + 1 + k = omega arith in
+      rw there (known-more k (bits % 64 + bits / 128 * 64) (omega arith) (rw here at (end .on 0 (omega arith))) (ending-after end) (omega (arith, held)) q)
+
+module _ (o : List ℕ) (at : ℕ) {w e : ℕ} (small : (i : ℕ) → getD o i 0 < 256) (room : at + 8 ≤ length o) (word : w ≡ little 8 o at) (is : e ≡ ends 8 w) where
+  low : w % 256 ≡ getD o at 0
+  low = ap (λ (w : ℕ). w % 256) word ∙ low-octet o small 7 at
+
+  first-sign : {y : ℤ} (n m : ℕ) → n ≡ m → y ≡ sign (ltb (w % 128) 64) n → y ≡ sign (positive (getD o at 0)) m
+  first-sign n m e q = let seven : w % 128 ≡ getD o at 0 % 128 = omega (arith, low) in q ∙ rw (seven, e)
+
+  pub known-word-one : {y : ℤ} → e ≡ marks 8 → y ≡ sign (ltb (w % 128) 64) (w % 64) → Knows64 o at (Int64 (at + 1) y)
+  known-word-one all q = known-one room (ends-one o at small word is all) (first-sign (w % 64) (getD o at 0 % 64) (omega (arith, low)) q)
+
+  pub known-word : {k bits : ℕ} {y : ℤ} → (e ≡ 0 → ⊥) → k ≡ trailingZeros 64 e / 8 → bits ≡ sevens (suc (lead 8 w)) w
+      → y ≡ sign (ltb (w % 128) 64) (bits % 64 + bits / 128 * 64) → Knows64 o at (Int64 (at + k + 1) y)
+  known-word {k} ne first held q =
+      known-ends room k (ends-few o at small word is ne first) (ends-first o at small word is ne first) (ends-held o at small word is ne first held) (first-sign _ _ refl q)

@@ -2,13 +2,12 @@
 use mathlib.Core.Path.{_≡_}
 use mathlib.Core.Bool.{cond}
 use mathlib.Core.List.{List}
-use Prim.Native.Nat.{ℕ, _+_, _*_, _/_, _%_, _<_, _≤_, _^_}
-use lib.ListN.{length, getD}
+use Prim.Native.Nat.{ℕ, _+_, _*_, _%_, _<_, _≤_, _^_}
+use lib.ListN.{length}
 use lib.Dec.{ltb, eqb}
 use lib.IntN.{ℤ, pos, negsuc}
 use Rattle.reading.specs.Reading.{Env, State, Out, got, stop, Reader, refusal, stand, _>>=_, _>>_, return, require}
 use Rattle.integer.specs.Packed.{Width, wide32, wide64, further, integer}
-use Rattle.integer.specs.declared.Few.{Few}
 use Rattle.integer.specs.declared.Magnitude.{Magnitude}
 use Rattle.integer.specs.declared.Magnitude.the-variants.{Mag, Ill}
 use Rattle.integer.specs.declared.Read32.{Read32}
@@ -90,30 +89,3 @@ abbrev pub joinedOf : ℕ → ℕ → ℕ → ℕ → ℕ → ℕ → Magnitude
 joinedOf at first bits last next bound =
     cond (eqb last 0) (Ill (refusal 3 at))
     (cond (ltb (first % 64 + 64 * bits) bound) (Mag next (first % 64 + 64 * bits)) (Ill (refusal 3 at)))
-
--- n where the flag is 1, and 0 where it is 0
-abbrev pub gate : ℕ → ℕ → ℕ
-gate flag n = cond (eqb flag 1) n 0
-
-abbrev pub fewOf : ℕ → ℕ → ℕ → Few
-fewOf m k n = record { more = m; count = k; bits = n }
-
--- one octet more, of which a bit is worth w
-abbrev pub also : Few → ℕ → ℕ → Few
-also f w b = cond (eqb (f .more) 1) (fewOf (b / 128) (f .count + 1) (f .bits + w * (b % 128))) f
-
-pub record Also (f : Few) (w b : ℕ) (r : Few) : Type 0 where
-  pub same : r ≡ also f w b
-  pub flag : r .more ≤ 1
-  pub few : r .count ≤ f .count + 1
-  pub held : r .bits ≤ f .bits + w * 127
-
--- four octets
-abbrev pub few : ℕ → ℕ → ℕ → ℕ → Few
-few b1 b2 b3 b4 = also (also (also (also (fewOf 1 0 0) 1 b1) 128 b2) 16384 b3) 2097152 b4
-
--- the four after a place
-pub record FewAt (o : List ℕ) (at : ℕ) (r : Few) : Type 0 where
-  pub same : r ≡ few (getD o (at + 1) 0) (getD o (at + 2) 0) (getD o (at + 3) 0) (getD o (at + 4) 0)
-  pub few-are : r .count ≤ 4
-  pub held : r .bits < 2 ^ 28

@@ -1,11 +1,85 @@
 ghost use mathlib.Core.Path.{_≡_};
-ghost use Prim.Native.Nat.{_+_, _*_, _%_, _^_, _≤_, _<_};
+ghost use Prim.Native.Nat.{suc, _+_, _/_, _%_, _^_, _≤_, _<_};
 ghost use lib.ListN.{length};
 ghost use lib.Signed.{mag};
+ghost use lib.Count.{trailingZeros};
 ghost use Rattle.integer.specs.Packed.{sign, groups, spellWith, signBit, spellInt};
 ghost use Rattle.integer.specs.Writes.{Room, Wrote};
-ghost use Rattle.integer.specs.Answers.{gate, Also, FewAt, joinedOf, Tail, Reads32, ReadsSigned, Reads64, Knows64};
+ghost use Rattle.integer.specs.Windows.{little, ends, lead, folded, sevens};
+ghost use Rattle.integer.specs.Answers.{joinedOf, Tail, Reads32, ReadsSigned, Reads64, Knows64};
 use reading::Refusal;
+
+// ---- Eight octets at once ----
+
+// An octet as a number of 64 bits.
+pub fn wide(b: u8) -> u64
+    ensures { λ r. ⌜ (r ≡ b) × (r < 256) ⌝ }
+{
+    b as u64
+}
+
+// Four octets from a place on as one number, the first lowest.
+fn half_at(src: &[u8], at: usize) -> u64
+    requires { ⌜ at + 4 ≤ length (now src) ⌝ }
+    ensures { λ r. ⌜ (r ≡ little 4 (now (src .entry)) at) × (r < 2 ^ 32) ⌝ }
+{
+    let a = wide(src[at]);
+    let b = wide(src[at + 1]);
+    let c = wide(src[at + 2]);
+    let d = wide(src[at + 3]);
+    a + 256 * b + 65536 * c + 16777216 * d
+}
+
+// Eight octets from a place on as one number, the first lowest. One load when compiled.
+fn word_at(src: &[u8], at: usize) -> u64
+    requires { ⌜ at + 8 ≤ length (now src) ⌝ }
+    ensures { λ r. ⌜ r ≡ little 8 (now (src .entry)) at ⌝ }
+{
+    half_at(src, at) + 4294967296 * half_at(src, at + 4)
+}
+
+// 128 in the place of each of a word's octets that isn't continued, 0 in the places of the others.
+fn ends_of(w: u64) -> u64
+    ensures { λ r. ⌜ r ≡ ends 8 w ⌝ }
+{
+    0x8080808080808080 - (w & 0x8080808080808080)
+}
+
+// The ends of the eight octets from a place on.
+pub fn ends_at(src: &[u8], at: usize) -> u64
+    requires { ⌜ at + 8 ≤ length (now src) ⌝ }
+    ensures { λ r. ⌜ r ≡ ends 8 (little 8 (now (src .entry)) at) ⌝ }
+{
+    ends_of(word_at(src, at))
+}
+
+// How many octets are continued before the first that isn't, by their ends, of which there is at least one.
+pub fn first_end(e: u64) -> usize
+    requires { ⌜ 0 < e ⌝ }
+    ensures { λ r. ⌜ (r ≡ trailingZeros 64 e / 8) × (r < 8) ⌝ }
+{
+    (u64::trailing_zeros(e) / 8) as usize
+}
+
+// The bits of a mask as they are, and the others moved down: divided by `by`.
+fn fold(x: u64, mask: u64, by: u64) -> u64
+    requires { ⌜ 0 < by ⌝ }
+    ensures { λ r. ⌜ r ≡ folded mask by x ⌝ }
+{
+    let low = x & mask;
+    low + (x - low) / by
+}
+
+// The bits of a word's octets up to the first that isn't continued, seven of each: moved together in pairs, in fours, and all eight.
+fn held(w: u64, e: u64) -> u64
+    requires { ⌜ (e ≡ ends 8 w) × (0 < e) ⌝ }
+    ensures { λ r. ⌜ r ≡ sevens (suc (lead 8 w)) w ⌝ }
+{
+    let x = w & (e ^ (e - 1)) & 0x7F7F7F7F7F7F7F7F;
+    let pairs = fold(x, 0x007F007F007F007F, 2);
+    let fours = fold(pairs, 0x00003FFF00003FFF, 4);
+    fold(fours, 0x0FFFFFFF, 16)
+}
 
 // ---- Reading ----
 
@@ -32,34 +106,6 @@ pub enum Signed {
 pub enum Read64 {
     Int64(usize, i64),
     Refused64(Refusal),
-}
-
-// Some octets after an integer's first: 1 if all are continued, else 0; how many of them belong to the integer; the bits that these hold.
-pub struct Few {
-    pub more: u64,
-    pub count: usize,
-    pub bits: u64,
-}
-
-// n where the flag is 1, and 0 where it is 0. No branch.
-fn gated(flag: u64, n: u64) -> u64
-    requires { ⌜ flag ≤ 1 ⌝ }
-    ensures { λ r. ⌜ (r ≡ gate flag n) × (r ≤ n) ⌝ }
-{
-    flag * n
-}
-
-// One octet more, of which a bit is worth `worth`.
-fn and_octet(f: Few, worth: u64, b: u8) -> Few
-    requires { ⌜ (f .more ≤ 1) × (f .count < 8) × (f .bits < 2 ^ 32) × (worth < 2 ^ 32) ⌝ }
-    ensures { λ r. ⌜ Also f worth b r ⌝ }
-{
-    let more = f.more;
-    Few {
-        more: gated(more, (b / 128) as u64),
-        count: f.count + more as usize,
-        bits: f.bits + worth * gated(more, (b % 128) as u64),
-    }
 }
 
 // The integer at `at`: its first octet, and the bits of the octets after it, of which `last` is the last.
@@ -113,32 +159,20 @@ fn long_at(src: &[u8], at: usize, first: u8, more: usize, bound: u64) -> Magnitu
     })
 }
 
-// The four octets after the one at `at`.
-fn few_at(src: &[u8], at: usize) -> Few
-    requires { ⌜ at + 5 ≤ length (now src) ⌝ }
-    ensures { λ r. ⌜ FewAt (now (src .entry)) at r ⌝ }
-{
-    let none = Few {
-        more: 1,
-        count: 0,
-        bits: 0,
-    };
-    let one = and_octet(none, 1, src[at + 1]);
-    let two = and_octet(one, 128, src[at + 2]);
-    let three = and_octet(two, 16384, src[at + 3]);
-    and_octet(three, 2097152, src[at + 4])
-}
-
-// The same, at once where five octets are there and hold it.
+// The same, at once where eight octets more are there and hold it.
 fn tail_at(src: &[u8], at: usize, first: u8, more: usize, bound: u64) -> Magnitude
-    requires { ⌜ (at < length (now src)) × (4 ≤ more) × (more ≤ 9) × (bound % 64 ≡ 0) ⌝ }
+    requires { ⌜ (at < length (now src)) × (more ≤ 9) × (bound % 64 ≡ 0) ⌝ }
     ensures { λ r. ⌜ Tail more bound (now (src .entry)) at first r ⌝ }
 {
-    if 5 <= src.len() - at {
-        let f = few_at(src, at);
-        let count = f.count;
-        if f.more == 0 {
-            return joined(at, first, f.bits, src[at + count], at + count + 1, bound);
+    if 9 <= src.len() - at {
+        let next = at + 1;
+        let w = word_at(src, next);
+        let e = ends_of(w);
+        if e != 0 {
+            let k = first_end(e);
+            if k < more {
+                return joined(at, first, held(w, e), src[next + k], next + k + 1, bound);
+            }
         }
     }
     long_at(src, at, first, more, bound)
@@ -245,16 +279,20 @@ pub fn known64_at(src: &[u8], at: usize) -> Read64
             number: 1,
         });
     }
-    let b = src[at];
-    if b < 128 {
-        return Read64::Int64(at + 1, signed64(b % 128 < 64, (b % 64) as u64));
-    }
-    if 5 <= src.len() - at {
-        let f = few_at(src, at);
-        let count = f.count;
-        if f.more == 0 {
-            let n = ((b % 64) as u64) + 64 * f.bits;
-            return Read64::Int64(at + count + 1, signed64(b % 128 < 64, n));
+    if 8 <= src.len() - at {
+        let w = word_at(src, at);
+        let e = ends_of(w);
+        let positive = w % 128 < 64;
+        // None of the eight octets is continued.
+        if e == 0x8080808080808080 {
+            return Read64::Int64(at + 1, signed64(positive, w % 64));
+        }
+        if e != 0 {
+            let bits = held(w, e);
+            return Read64::Int64(
+                at + first_end(e) + 1,
+                signed64(positive, bits % 64 + bits / 128 * 64),
+            );
         }
     }
     int64_at(src, at)

@@ -1,18 +1,18 @@
 -- Integers of which only the place past them is asked: how many octets they have and which is the last says whether they fit.
-use mathlib.Core.Path.{_≡_, refl, sym, ap, subst, _∙_}
-use mathlib.Core.Bool.{Bool, true, false, cond, not}
+use mathlib.Core.Path.{_≡_, refl, sym, subst, _∙_}
+use mathlib.Core.Bool.{Bool, true, false, cond}
 use mathlib.Core.List.{List}
-use Prim.Native.Nat.{ℕ, zero, suc, _+_, _-_, _*_, _/_, _%_, _^_, _<_, _≤_}
+use Prim.Native.Nat.{ℕ, zero, suc, _+_, _*_, _/_, _%_, _^_, _<_, _≤_}
 use native.Mathlib.Omega.{arith}
-use native.Mathlib.Nat.{pow-suc, pow-succ', pow-le-pow-right, mul-assoc, mul-le-mul, mul-le-mul-left, le-trans}
+use native.Mathlib.Nat.{pow-suc, pow-le-pow-right, mul-le-mul-left, le-trans}
 use lib.ListN.{length, getD}
-use lib.Dec.{ltb, leb, eqb, lit<, lit≤}
+use lib.Count.{trailingZeros}
+use lib.Dec.{ltb, leb, lit<, lit≤}
 use lib.IntN.{ℤ, pos, negsuc}
 use lib.Signed.{mag}
-use borrow.Author.Tests.{ltb-true, ltb-false, lt-ltb, le-ltb, ne-eqb}
+use borrow.Author.Tests.{ltb-true, ltb-false, leb-true, eqb-false, not-true, lt-ltb, ne-eqb}
 use Rattle.reading.specs.declared.Refusal.{Refusal}
 use Rattle.reading.specs.Reading.{Env, State, Out, got, stop, refusal, stand, follow, _>>=_, return, require, either, here, octet}
-use Rattle.reading.proofs.Places.{octet-at}
 use Rattle.integer.specs.Packed.{wide16, wide32, wide64, further, sign, positive, integer}
 use Rattle.integer.specs.Answers.{out32, out64, past32, past64, Reads32, Reads64, Tail}
 use Rattle.integer.specs.declared.Read32.{Read32}
@@ -24,95 +24,17 @@ use mir.Syntax.{w32}
 use mir.Val.{toZ, ofZ}
 use Rattle.integer.proofs.Signs.{returned}
 use Rattle.integer.proofs.Spelling.{mag-sign}
-use Rattle.integer.proofs.Steps.{lastly, tail-joined, found-mag, integer-end, integer-one, told}
+use Rattle.integer.specs.Windows.{little, ends, sevensAt, Ending}
+use Rattle.integer.proofs.Windows.{ends-few, ends-first}
+use Rattle.integer.proofs.Steps.{tail-joined, tail-ends, ending-after, further-last, sevens-below, found-mag, integer-end, integer-one, told}
 use Rattle.format.specs.Data.{within}
 use Rattle.scalar.specs.declared.Bits.{Bits}
 use Rattle.scalar.specs.declared.Bits.the-variants.{Bits16, Bits32, Bits64}
 use Rattle.scalar.specs.declared.Passed.{Passed}
 use Rattle.scalar.specs.declared.Passed.the-variants.{Past, Refused}
-use Rattle.scalar.specs.Answers.{widthOf, mostOf, Passes}
-use Rattle.scalar.specs.Parts.{Counted}
-use Rattle.scalar.proofs.Tests.{leb-below, and-true}
+use Rattle.scalar.specs.Answers.{widthOf, mostOf, fitting, Passes}
+use Rattle.scalar.proofs.Tests.{leb-below, and-true, and-split}
 use Rattle.scalar.proofs.Passing.{passes-got, passes-stop}
-
--- ---- the count of the octets after the first
-
--- as the code makes it, by flags
-pub both : {x y : ℕ} → x ≤ 1 → y ≤ 1 → x * y ≤ 1
-both {x} {y} h g = mul-le-mul h g
-
-nothing : {y z : ℕ} (c : ℕ) → z ≡ y * c → y ≡ 0 → z ≡ 0
-nothing c e h = e ∙ rw h (omega arith)
-
-module _ {o : List ℕ} {at : ℕ} where
-  -- the count, by the flags of the three octets after the first
-  pub counted : (x b c y z k : ℕ) → k ≡ 1 + x + y + z → x ≡ 1 * (getD o (at + 1) 0 / 128) → y ≡ x * b → z ≡ y * c → getD o (at + 2) 0 / 128 ≡ b → getD o (at + 3) 0 / 128 ≡ c
-      → x ≤ 1 → b ≤ 1 → c ≤ 1 → Counted o at k
-  counted zero b c y z k ek ex ey ez eb ec hx hb hc =
-      let is : k ≡ 1 = omega (arith, nothing c ez (omega arith)) in
-      record { some = omega arith; few = omega arith; one = λ h. absurd (omega arith); two = λ h. absurd (omega arith); three = λ h. absurd (omega arith); off = λ h. rw is (omega arith) }
-  counted (suc zero) zero c y z k ek ex ey ez eb ec hx hb hc =
-      let is : k ≡ 2 = omega (arith, nothing c ez (omega arith)) in
-      record { some = omega arith; few = omega arith; one = λ h. omega arith; two = λ h. absurd (omega arith); three = λ h. absurd (omega arith); off = λ h. rw is (omega arith) }
-  counted (suc zero) (suc zero) zero y z k ek ex ey ez eb ec hx hb hc =
-      let is : k ≡ 3 = omega arith in
-      record { some = omega arith; few = omega arith; one = λ h. omega arith; two = λ h. omega arith; three = λ h. absurd (omega arith); off = λ h. rw is (omega arith) }
-  counted (suc zero) (suc zero) (suc zero) y z k ek ex ey ez eb ec hx hb hc =
-      let is : k ≡ 4 = omega arith in
-      record { some = omega arith; few = omega arith; one = λ h. omega arith; two = λ h. omega arith; three = λ h. omega arith; off = λ h. absurd (omega arith) }
-  counted (suc (suc x)) b c y z k ek ex ey ez eb ec hx hb hc = absurd (omega arith)
-  counted (suc zero) (suc (suc b)) c y z k ek ex ey ez eb ec hx hb hc = absurd (omega arith)
-  counted (suc zero) (suc zero) (suc (suc c)) y z k ek ex ey ez eb ec hx hb hc = absurd (omega arith)
-
-  continued : {k : ℕ} → Counted o at k → (j : ℕ) → at + 1 ≤ j → j < at + k → 128 ≤ getD o j 0
-  continued {k} c j h g = by (j - at) (omega arith)
-    where
-      by : (i : ℕ) → j ≡ at + i → 128 ≤ getD o j 0
-      by zero e = absurd (omega arith)
-      by (suc zero) e = rw e (c .one (omega arith))
-      by (suc (suc zero)) e = rw e (c .two (omega arith))
-      by (suc (suc (suc zero))) e = rw e (c .three (omega arith))
-      by (suc (suc (suc (suc i)))) e = absurd (omega (arith, c .few))
-
--- ---- the octets after the first, by their count
-
-module _ (o : List ℕ) (n : ℕ) (e : Env) (more p : ℕ) where
-  further-last : n < length o → getD o n 0 < 128 → further (suc more) p (stand o n e) ≡ lastly p (getD o n 0) (got (getD o n 0) (stand o (n + 1) e))
-  unfolding _>>=_ further either require return
-  further-last h g = rw (octet-at o n e h, lt-ltb (getD o n 0) 128 g, either) (by (eqb (getD o n 0) 0))
-    where
-      by : (t : Bool) → follow (require (not t) 3 p (stand o (n + 1) e)) (λ _. return (getD o n 0)) ≡ cond t (stop (refusal 3 p)) (got (getD o n 0) (stand o (n + 1) e))
-      by true = refl
-      by false = refl
-
-  further-on : n < length o → 128 ≤ getD o n 0 → further (suc more) p (stand o n e) ≡ follow (further more p (stand o (n + 1) e)) (λ m. return (getD o n 0 % 128 + 128 * m))
-  unfolding _>>=_ further either
-  further-on h g = rw (octet-at o n e h, le-ltb (getD o n 0) 128 g, either)
-
--- they end with the octet at q, k places on, and hold m, which that octet bounds
-record Ended (o : List ℕ) (more p n k q : ℕ) : Type 0 where
-  pub m : ℕ
-  pub high : m < 128 ^ k * (getD o q 0 + 1)
-  pub same : (e : Env) → further more p (stand o n e) ≡ lastly p (getD o q 0) (got m (stand o (q + 1) e))
-
-ended-more : {o : List ℕ} {k more p n q : ℕ} → n < length o → 128 ≤ getD o n 0 → Ended o more p (n + 1) k q → Ended o (suc more) p n (suc k) q
-unfolding return
-ended-more {o} {k} {more} {p} {n} {q} h g r = record {
-  m = getD o n 0 % 128 + 128 * r .m;
-  high = rw (pow-succ' 128 k, mul-assoc 128 (128 ^ k) (getD o q 0 + 1)) (omega (arith, r .high));
-  same = λ e. further-on o n e more p h g ∙ ap (λ (x : Out ℕ). follow x (λ m. return (getD o n 0 % 128 + 128 * m))) (r .same e) ∙ by e (eqb (getD o q 0) 0);
-}
-  where
-    by : (e : Env) (t : Bool) → follow (cond t (stop (refusal 3 p)) (got (r .m) (stand o (q + 1) e))) (λ m. return (getD o n 0 % 128 + 128 * m)) ≡ cond t (stop (refusal 3 p)) (got (getD o n 0 % 128 + 128 * r .m) (stand o (q + 1) e))
-    by e true = refl
-    by e false = refl
-
-ended : (o : List ℕ) (k more p n q : ℕ) → q ≡ n + k → k < more → q < length o → ((j : ℕ) → n ≤ j → j < q → 128 ≤ getD o j 0) → getD o q 0 < 128 → Ended o more p n k q
-ended o k zero p n q is h g on off = absurd (omega arith)
-ended o zero (suc more) p n q is h g on off =
-    let z : n ≡ q = omega arith in
-    record { m = getD o q 0; high = omega arith; same = λ e. rw z (further-last o q e more p g off) }
-ended o (suc k) (suc more) p n q is h g on off = ended-more (omega arith) (on n (omega arith) (omega arith)) (ended o k more p (n + 1) q (omega arith) (omega arith) g (λ j a b. on j (omega arith) b) off)
 
 -- ---- the last octet says whether the integer fits
 
@@ -133,38 +55,26 @@ within-most f t i b h g k = by (ltb i f) refl
 holds : (w : Bits) (i b : ℕ) → suc i * 256 + b ≤ mostOf w → b < 128 → 64 * (128 ^ i * (b + 1)) ≤ widthOf w .bound
 holds Bits16 i b h g = omega (arith, within-most 1 3 i b h g (lit< tt))
 holds Bits32 i b h g = omega (arith, within-most 3 15 i b h g (lit< tt))
-holds Bits64 i b h g = omega (arith, within-most 3 127 i b h g (lit< tt))
+holds Bits64 i b h g = omega (arith, within-most 6 127 i b h g (lit< tt))
 
-most-is : (w : Bits) → (mostOf w ≤ 1151) × (4 ≤ widthOf w .more)
-most-is Bits16 = (lit≤ tt, lit≤ tt)
-most-is Bits32 = (lit≤ tt, lit≤ tt)
-most-is Bits64 = (lit≤ tt, lit≤ tt)
+few-follow : (w : Bits) (i b : ℕ) → suc i * 256 + b ≤ mostOf w → i < widthOf w .more
+few-follow Bits16 i b h = omega arith
+few-follow Bits32 i b h = omega arith
+few-follow Bits64 i b h = omega arith
 
-module _ {o : List ℕ} {at k : ℕ} (w : Bits) (c : Counted o at k) (room : at + 5 ≤ length o) (first : 128 ≤ getD o at 0) where
-  pub counted-passes : (getD o (at + k) 0 ≡ 0 → ⊥) → k * 256 + getD o (at + k) 0 ≤ mostOf w → Passes 1 o at (integer (widthOf w)) (Past (at + k + 1))
-  counted-passes ne most = passes-got _ is (omega arith) (omega (arith, c .few))
+module _ (w : Bits) {o : List ℕ} {at : ℕ} (room : at + 8 ≤ length o) where
+  ends-after : (i : ℕ) → i < 7 → 128 ≤ getD o at 0 → Ending o (at + 1) i → (getD o (at + 1 + i) 0 ≡ 0 → ⊥) → suc i * 256 + getD o (at + 1 + i) 0 ≤ mostOf w
+      → Passes 1 o at (integer (widthOf w)) (Past (at + 1 + i + 1))
+  ends-after i few first end ne most = passes-got _ is (omega arith) (omega arith)
     where
-      back : suc (k - 1) ≡ k
-      back = omega (arith, c .some)
-
-      low : getD o (at + k) 0 < 128
-      low = by (ltb k 4) refl
-        where
-          by : (t : Bool) → ltb k 4 ≡ t → getD o (at + k) 0 < 128
-          by true e = c .off (ltb-true k 4 e)
-          by false e = omega (arith, ltb-false k 4 e, most-is w .0)
-
-      end : Ended o (widthOf w .more) at (at + 1) (k - 1) (at + k)
-      end = ended o (k - 1) (widthOf w .more) at (at + 1) (at + k) (omega (arith, c .some)) (omega (arith, c .some, c .few, most-is w .1)) (omega (arith, c .few)) (continued c) low
-
       n : ℕ
-      n = getD o at 0 % 64 + 64 * end .m
+      n = getD o at 0 % 64 + 64 * sevensAt (suc i) o (at + 1)
 
       fits : n < widthOf w .bound
-      fits = omega (arith, holds w (k - 1) (getD o (at + k) 0) (rw back most) low, end .high)
+      fits = omega (arith, holds w i (getD o (at + 1 + i) 0) most (end .off), sevens-below o i (at + 1) (end .off))
 
-      is : (e : Env) → integer (widthOf w) (stand o at e) ≡ got (sign (positive (getD o at 0)) n) (stand o (at + k + 1) e)
-      is e = found-mag {w = widthOf w} (tail-joined (widthOf w .more) (widthOf w .bound) o at (getD o at 0) (end .m) (getD o (at + k) 0) (at + k + 1) (Mag (at + k + 1) n) (end .same) (omega arith) (omega (arith, c .few)) (rw (ne-eqb _ 0 ne, lt-ltb n (widthOf w .bound) fits))) (omega arith) first refl e
+      is : (e : Env) → integer (widthOf w) (stand o at e) ≡ got (sign (positive (getD o at 0)) n) (stand o (at + 1 + i + 1) e)
+      is e = found-mag {w = widthOf w} (tail-ends {bound = widthOf w .bound} (few-follow w i (getD o (at + 1 + i) 0) most) (omega arith) end refl (rw (ne-eqb _ 0 ne, lt-ltb n (widthOf w .bound) fits))) (omega arith) first refl e
 
 -- ---- a narrower width
 
@@ -256,6 +166,23 @@ past-end w {o} {at} h = passes-stop λ e. integer-end (widthOf w) o at e h
 
 pub past-one : (w : Bits) {o : List ℕ} {at : ℕ} → at < length o → getD o at 0 < 128 → Passes 1 o at (integer (widthOf w)) (Past (at + 1))
 past-one w {o} {at} h g = passes-got _ (λ e. integer-one (widthOf w) o at e (bound-is w) h g) (omega arith) (omega arith)
+
+-- an integer whose last octet is k octets after its first
+ends-pass : (w : Bits) {o : List ℕ} {at : ℕ} (k : ℕ) → at + 8 ≤ length o → k < 8 → Ending o at k → fitting w k (getD o (at + k) 0) ≡ true
+    → Passes 1 o at (integer (widthOf w)) (Past (at + k + 1))
+ends-pass w {o} {at} zero room few end t =
+    let here : at + 0 ≡ at = omega arith in
+    rw here (past-one w (omega arith) (rw here at (end .off)))
+ends-pass w {o} {at} (suc i) room few end t =
+    let here : at + 0 ≡ at = omega arith in
+    let there : at + suc i ≡ at + 1 + i = omega arith in
+    let tests = and-split _ _ (rw (there, ne-eqb (suc i) 0 (λ e. omega arith)) at t) in
+    rw there (ends-after w room i (omega arith) (rw here at (end .on 0 (omega arith))) (ending-after end) (eqb-false _ 0 (not-true _ (tests .0))) (leb-true _ _ (tests .1)))
+
+-- the same by eight octets at once
+pub word-passes : (w : Bits) (o : List ℕ) (at : ℕ) {e k : ℕ} {t : Bool} → at + 8 ≤ length o → ((i : ℕ) → getD o i 0 < 256) → e ≡ ends 8 (little 8 o at) → (e ≡ 0 → ⊥)
+    → k ≡ trailingZeros 64 e / 8 → t ≡ fitting w k (getD o (at + k) 0) → t ≡ true → Passes 1 o at (integer (widthOf w)) (Past (at + k + 1))
+word-passes w o at {e} {k} room small is ne first t on = ends-pass w k room (ends-few o at small refl is ne first) (ends-first o at small refl is ne first) (sym t ∙ on)
 
 -- ---- an integer of one or two octets
 

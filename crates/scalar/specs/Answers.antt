@@ -1,9 +1,11 @@
 -- What the answers of the code say, as readings at a place.
 use mathlib.Core.Path.{_≡_}
+use mathlib.Core.Bool.{Bool, not, _&&_, _||_}
 use mathlib.Core.List.{List}
 use mathlib.Core.Logic.{_⊎_}
-use Prim.Native.Nat.{ℕ, _+_, _^_, _<_, _≤_}
+use Prim.Native.Nat.{ℕ, _+_, _*_, _^_, _<_, _≤_}
 use lib.ListN.{length, take, drop}
+use lib.Dec.{eqb, leb}
 use Rattle.reading.specs.Reading.{Env, State, Out, got, stop, refusal, Reader, stand, _>>=_, return}
 use Rattle.integer.specs.Packed.{Width, wide16, wide32, wide64}
 use Rattle.format.specs.Data.{big, character}
@@ -43,11 +45,15 @@ widthOf Bits16 = wide16
 widthOf Bits32 = wide32
 widthOf Bits64 = wide64
 
--- an integer of k octets after its first, of which the last is b, fits where b isn't 0 and k * 256 + b is at most this
+-- k octets after the first, of which the last is b, hold a number that fits where k * 256 + b is at most this. (Of at most seven.)
 abbrev pub mostOf : Bits → ℕ
 mostOf Bits16 = 515
 mostOf Bits32 = 1039
-mostOf Bits64 = 1151
+mostOf Bits64 = 1919
+
+-- so an integer is in its shortest form and fits. (Where k is 0, b is the first octet.)
+abbrev pub fitting : Bits → ℕ → ℕ → Bool
+fitting w k b = (eqb k 0 || not (eqb b 0)) && leb (k * 256 + b) (mostOf w)
 
 -- ---- dates and times
 

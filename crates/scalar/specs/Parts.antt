@@ -8,15 +8,6 @@ use lib.Dec.{ltb}
 use Rattle.reading.specs.Reading.{State, got, stop, refusal}
 use Rattle.format.specs.Data.{followers, isChar, chars}
 
--- the first k of the four octets after a place: those before the last of them are continued, and it is not, where there are less than four
-pub record Counted (o : List ℕ) (at k : ℕ) : Type 0 where
-  pub some : 0 < k
-  pub few : k ≤ 4
-  pub one : 1 < k → 128 ≤ getD o (at + 1) 0
-  pub two : 2 < k → 128 ≤ getD o (at + 2) 0
-  pub three : 3 < k → 128 ≤ getD o (at + 3) 0
-  pub off : k < 4 → getD o (at + k) 0 < 128
-
 -- ---- characters
 
 -- the octets from a place to another

@@ -1,7 +1,7 @@
 ghost use mathlib.Core.Path.{_≡_};
-ghost use mathlib.Core.Bool.{true, cond, _&&_};
+ghost use mathlib.Core.Bool.{true, cond, _&&_, _||_};
 ghost use mathlib.Core.List.{[], _∷_};
-ghost use Prim.Native.Nat.{_+_, _*_, _/_, _^_, _≤_, _<_};
+ghost use Prim.Native.Nat.{_+_, _^_, _≤_, _<_};
 ghost use lib.ListN.{length, getD};
 ghost use lib.Dec.{leb};
 ghost use lib.IntN.{pos};
@@ -9,8 +9,8 @@ ghost use Rattle.integer.specs.Packed.{integer, wide16, wide32, wide64, sign};
 ghost use Rattle.integer.specs.Answers.{Reads32};
 ghost use Rattle.format.specs.Types.{octets, characters, date, dateTime};
 ghost use Rattle.format.specs.Data.{within, run, bits, followers, codeOf, character, contents, leap, days, dateFits};
-ghost use Rattle.scalar.specs.Answers.{widthOf, mostOf, Passes, Passing, Size, bigAt, Codes};
-ghost use Rattle.scalar.specs.Parts.{Counted, counts, Spells, Plain, Reached, Told};
+ghost use Rattle.scalar.specs.Answers.{widthOf, mostOf, fitting, Passes, Passing, Size, bigAt, Codes};
+ghost use Rattle.scalar.specs.Parts.{counts, Spells, Plain, Reached, Told};
 ghost use Rattle.scalar.specs.Moments.{ReadsTwo, ReadsThree, clockFits, countOf, offsets, clock, partsOf, isTime, isClocked};
 use integer::Read32;
 use integer::Read64;
@@ -22,6 +22,22 @@ pub enum Passed {
     Refused(Refusal),
 }
 
+// ---- Tests ----
+
+// Both, without a branch between them.
+fn both(a: bool, b: bool) -> bool
+    ensures { λ r. ⌜ r ≡ a && b ⌝ }
+{
+    a && b
+}
+
+// Either, likewise.
+fn either(a: bool, b: bool) -> bool
+    ensures { λ r. ⌜ r ≡ a || b ⌝ }
+{
+    a || b
+}
+
 // ---- Integers ----
 
 // The width of an integer.
@@ -31,34 +47,26 @@ pub enum Bits {
     Bits64,
 }
 
-// 1 where the flag is 1 and the octet is continued, else 0. No branch.
-fn also(flag: usize, b: u8) -> usize
-    requires { ⌜ flag ≤ 1 ⌝ }
-    ensures { λ r. ⌜ (r ≡ flag * (b / 128)) × (r ≤ 1) ⌝ }
-{
-    flag * (b / 128) as usize
-}
-
-// How many of the four octets after the one at `at` belong to the integer there; the fourth may be continued. No branch.
-fn count_at(src: &[u8], at: usize) -> usize
-    requires { ⌜ at + 5 ≤ length (now src) ⌝ }
-    ensures { λ r. ⌜ Counted (now (src .entry)) at r ⌝ }
-{
-    let one = also(1, src[at + 1]);
-    let two = also(one, src[at + 2]);
-    let three = also(two, src[at + 3]);
-    1 + one + two + three
-}
-
-// The most octets after the first, times 256, with the most that the last of them may be.
+// k octets after the first, the last of them b, fit where k * 256 + b is at most this; of integers of at most eight octets.
 fn most_of(w: Bits) -> usize
     ensures { λ r. ⌜ r ≡ mostOf w ⌝ }
 {
     match w {
         Bits::Bits16 => 515,
         Bits::Bits32 => 1039,
-        Bits::Bits64 => 1151,
+        Bits::Bits64 => 1919,
     }
+}
+
+// Whether an integer is in its shortest form and fits: k octets after its first, of which `last` is the last. (Where k is 0, it is the first octet.)
+fn fits_in(w: Bits, k: usize, last: u8) -> bool
+    requires { ⌜ k < 8 ⌝ }
+    ensures { λ r. ⌜ r ≡ fitting w k last ⌝ }
+{
+    both(
+        either(k == 0, last != 0),
+        k * 256 + last as usize <= most_of(w),
+    )
 }
 
 // Whether a number lies between two.
@@ -125,15 +133,17 @@ pub fn int_past(src: &[u8], at: usize, w: Bits) -> Passed
             number: 1,
         });
     }
-    if src[at] < 128 {
-        return Passed::Past(at + 1);
-    }
-    if 5 <= src.len() - at {
-        let k = count_at(src, at);
-        let last = src[at + k];
-        let most = most_of(w);
-        if last != 0 && k * 256 + last as usize <= most {
-            return Passed::Past(at + k + 1);
+    if 8 <= src.len() - at {
+        let e = integer::ends_at(src, at);
+        // None of the eight octets is continued.
+        if e == 0x8080808080808080 {
+            return Passed::Past(at + 1);
+        }
+        if e != 0 {
+            let k = integer::first_end(e);
+            if fits_in(w, k, src[at + k]) {
+                return Passed::Past(at + k + 1);
+            }
         }
     }
     long_past(src, at, w)
@@ -467,13 +477,6 @@ fn three_at(src: &[u8], at: usize) -> Three
     }
 }
 
-// Both tests, without a branch between them.
-fn both(a: bool, b: bool) -> bool
-    ensures { λ r. ⌜ r ≡ a && b ⌝ }
-{
-    a && b
-}
-
 // Whether hour, minute, second and fraction are in range.
 fn clock_fits(h: i32, m: i32, s: i32, f: i32) -> bool
     ensures { λ r. ⌜ r ≡ clockFits h m s f ⌝ }
@@ -636,21 +639,15 @@ pub fn moment_past(src: &[u8], at: usize, d: Which) -> Moment
 
 // ---- Values of octets that are accepted ----
 
-fn wide(b: u8) -> u64
-    ensures { λ r. ⌜ (r ≡ b) × (r < 256) ⌝ }
-{
-    b as u64
-}
-
 // Four octets, most significant first.
 fn four_at(src: &[u8], at: usize) -> u64
     requires { ⌜ at + 4 ≤ length (now src) ⌝ }
     ensures { λ r. ⌜ (r ≡ bigAt (now (src .entry)) at 4) × (r < 2 ^ 32) ⌝ }
 {
-    let a = wide(src[at]);
-    let b = wide(src[at + 1]);
-    let c = wide(src[at + 2]);
-    let d = wide(src[at + 3]);
+    let a = integer::wide(src[at]);
+    let b = integer::wide(src[at + 1]);
+    let c = integer::wide(src[at + 2]);
+    let d = integer::wide(src[at + 3]);
     a * 16777216 + b * 65536 + c * 256 + d
 }
 
@@ -660,7 +657,7 @@ fn big_at(src: &[u8], at: usize, n: usize) -> u64
     ensures { λ r. ⌜ r ≡ bigAt (now (src .entry)) at n ⌝ }
 {
     if n == 1 {
-        return wide(src[at]);
+        return integer::wide(src[at]);
     }
     if n == 4 {
         return four_at(src, at);

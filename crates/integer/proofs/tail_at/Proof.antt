@@ -1,5 +1,5 @@
 use native.Mathlib.Omega.{arith}
-use Rattle.integer.proofs.Steps.{few-joined}
+use Rattle.integer.proofs.Steps.{tail-word}
 use borrow.Author.Needs.{needs}
 use Rattle.integer.proofs.tail_at.Statement.{statement}
 use Rattle.integer.proofs.tail_at.Tie as tie
@@ -7,8 +7,20 @@ use Rattle.integer.proofs.tail_at.Tie as tie
 sub-if1 : tie.Need-sub-if1
 sub-if1 c = search needs
 
-few-at-requires : tie.Need-few-at-requires
-few-at-requires c κs = search needs
+add-next : tie.Need-add-next
+add-next c = search needs
+
+word-at-requires : tie.Need-word-at-requires
+word-at-requires c κs = search needs
+
+ends-of-requires : tie.Need-ends-of-requires
+ends-of-requires c κs = search needs
+
+first-end-requires : tie.Need-first-end-requires
+first-end-requires c κs = search needs
+
+held-requires : tie.Need-held-requires
+held-requires c κs = search needs
 
 add-joined : tie.Need-add-joined
 add-joined c = search needs
@@ -26,7 +38,7 @@ joined-requires : tie.Need-joined-requires
 joined-requires c κs = search needs
 
 returns : tie.Need-returns
-returns c = few-joined (c .before .before .before .before .before .before .before .pre .1) (omega arith) (λ i. c .before .before .before .before .before .before .shared-slice-known .given i .fits) (c .before .before .before .before .few-at .ensures) (c .before .before .if2 .taken) (c .joined .ensures)
+returns c = tail-word _ _ (λ i. c .before .before .before .before .before .before .before .before .before .shared-slice-known .given i .fits) (omega arith) (c .before .before .before .before .before .before .before .word-at .ensures) (c .before .before .before .before .before .before .ends-of .ensures) (c .before .before .before .before .before .if2 .taken) (c .before .before .before .before .first-end .ensures .0) (c .before .before .before .if3 .taken) (c .before .before .held .ensures) (c .joined .ensures)
 
 long-at-requires : tie.Need-long-at-requires
 long-at-requires c κs = search needs
@@ -39,7 +51,11 @@ tail-at-spec =
     tie.close
     (tie.spec
     sub-if1
-    few-at-requires
+    add-next
+    word-at-requires
+    ends-of-requires
+    first-end-requires
+    held-requires
     add-joined
     shared-slice-read-joined
     add-joined-2
