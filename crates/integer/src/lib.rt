@@ -30,7 +30,7 @@ fn half_at(src: &[u8], at: usize) -> u64
     a + 256 * b + 65536 * c + 16777216 * d
 }
 
-// Eight octets from a place on as one number, the first lowest. One load when compiled.
+// Eight octets from a place on as one number, the first lowest. One load when compiled, or two.
 fn word_at(src: &[u8], at: usize) -> u64
     requires { ⌜ at + 8 ≤ length (now src) ⌝ }
     ensures { λ r. ⌜ r ≡ little 8 (now (src .entry)) at ⌝ }
