@@ -15,7 +15,7 @@ use Rattle.integer.specs.Answers.{outSigned, pastSigned, ReadsSigned}
 use Rattle.format.specs.Values.{label}
 use Rattle.decide.specs.declared.Next.{Next}
 use Rattle.decide.specs.declared.Next.the-variants.{Value, End, Halt}
-use Rattle.decide.specs.Coming.{comingByIndex, coming, nextLow, NextAt, IndexNext}
+use Rattle.decide.specs.Coming.{comingByIndex, coming, NextAt, IndexNext}
 
 module _ {o : List ℕ} {at : ℕ} {x : Signed} (reads : ReadsSigned o at x) where
   -- by the index that was read
@@ -41,9 +41,9 @@ module _ {o : List ℕ} {top low at : ℕ} {x : Signed} (reads : ReadsSigned o a
   pub index-high : {next n : ℕ} → x ≡ Positive next n → low ≤ n → top ≤ n → IndexNext o top low at (Halt (refusal 5 at))
   index-high {next} {n} h l k = record { next = λ paired. record { same = λ e. sym (by-index reads top low paired e ∙ rw (h, le-leb low n l, le-ltb n top k)); past = tt } }
 
-  pub index-value : {next n : ℕ} → x ≡ Positive next n → low ≤ n → n < top → IndexNext o top low at (Value next n)
+  pub index-value : {next n : ℕ} → x ≡ Positive next n → low ≤ n → n < top → IndexNext o top low at (Value next n (n + 1))
   index-value {next} {n} h l k = let q = subst (pastSigned o at) h (reads .past) in
-      record { next = λ paired. record { same = λ e. sym (by-index reads top low paired e ∙ rw (h, le-leb low n l, lt-ltb n top k)); past = (omega arith, q .1, omega arith, omega arith) } }
+      record { next = λ paired. record { same = λ e. sym (by-index reads top low paired e ∙ rw (h, le-leb low n l, lt-ltb n top k)); past = (omega arith, q .1, omega arith, omega arith, add-one n) } }
 
 module _ {o : List ℕ} {x paired : Bool} {count low at : ℕ} where
   pub next-index : x ≡ true → {r : Next} → IndexNext o count low at r → NextAt o x paired count low at r
@@ -52,14 +52,5 @@ module _ {o : List ℕ} {x paired : Bool} {count low at : ℕ} where
   pub next-end : x ≡ false → at ≤ length o → count ≤ low → NextAt o x paired count low at (End at)
   next-end e h l = rw e record { same = λ _. rw (le-ltb low count l); past = (omega arith, h) }
 
-  pub next-value : x ≡ false → at ≤ length o → low < count → {j : ℕ} → j ≡ label paired low → NextAt o x paired count low at (Value at j)
-  next-value e h l q = rw (e, q) record { same = λ _. rw (lt-ltb low count l); past = (omega arith, h, omega arith, omega arith) }
-
--- ---- the position after a value
-
-module _ {x : Bool} (j low : ℕ) where
-  pub low-indexed : x ≡ true → j + 1 ≡ nextLow x j low
-  low-indexed e = rw e (add-one j)
-
-  pub low-counted : x ≡ false → low + 1 ≡ nextLow x j low
-  low-counted e = rw e (add-one low)
+  pub next-value : x ≡ false → at ≤ length o → low < count → {j : ℕ} → j ≡ label paired low → NextAt o x paired count low at (Value at j (low + 1))
+  next-value e h l q = rw (e, q) record { same = λ _. rw (lt-ltb low count l); past = (omega arith, h, omega arith, omega arith, add-one low) }

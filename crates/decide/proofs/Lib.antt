@@ -1,5 +1,6 @@
 pub mod Keys
 pub mod Table
 pub mod Elements
+pub mod Plain
 pub mod Forms
 pub mod Coming

@@ -40,13 +40,13 @@ nextLow x j low = cond x (suc j) (suc low)
 -- ---- as the code answers
 
 abbrev pub nextOut : List ℕ → Env → Next → Coming
-nextOut o e (Value next j) = go j (stand o next e)
+nextOut o e (Value next j k) = go j (stand o next e)
 nextOut o e (End next) = ends (stand o next e)
 nextOut o e (Halt r) = halt r
 
--- the place lies further on, and `low` rises
+-- the place lies further on, and `low` rises to k
 abbrev pub pastNext : List ℕ → Bool → ℕ → ℕ → ℕ → Next → Type 0
-pastNext o x count low at (Value next j) = (at ≤ next) × (next ≤ length o) × (low < nextLow x j low) × (nextLow x j low ≤ count)
+pastNext o x count low at (Value next j k) = (at ≤ next) × (next ≤ length o) × (low < k) × (k ≤ count) × (k ≡ nextLow x j low)
 pastNext o x count low at (End next) = (at ≤ next) × (next ≤ length o)
 pastNext o x count low at (Halt r) = Unit {0}
 

@@ -5,8 +5,8 @@ ghost use Rattle.reading.specs.Reading.{refusal};
 ghost use Rattle.format.specs.Values.{label};
 ghost use Rattle.decide.specs.Classes.{ClassOf, mayBeElement};
 ghost use Rattle.decide.specs.Elements.{AmountAt, ElementAt, TypeAt};
-ghost use Rattle.decide.specs.Forms.{ownOf, IdentifierAt, TypedAt, formOf, alikeNest, nestIn, turn};
-ghost use Rattle.decide.specs.Coming.{IndexNext, NextAt, nextLow};
+ghost use Rattle.decide.specs.Forms.{ownOf, IdentifierAt, TypedAt, ClassAt, ClassIn, bareForm, formOf, alikeNest, nestIn, turn};
+ghost use Rattle.decide.specs.Coming.{IndexNext, NextAt};
 use integer::Read32;
 use integer::Signed;
 use reading::Refusal;
@@ -167,11 +167,14 @@ pub fn type_at(src: &[u8], on: bool, at: usize) -> Element
 
 // ---- How a value stands ----
 
-// How a value inside a container stands: with its identifier; so too, as the value of an identity, which isn't one; or bare, of a type.
+// How a value inside a container stands: with its identifier; so too, as the value of an identity, which isn't one; or bare, of a type. Of bare values
+// that are so many octets, or an integer of a width, the form says that too, so that it is decided once for all values of a container.
 pub enum Form {
     Whole,
     Named,
     Bare(i32),
+    Sized(u8, i32),
+    Packed(Bits, i32),
 }
 
 // 1 if a value's identifier stands before its data, else 0: 01's own.
@@ -182,6 +185,8 @@ pub fn own_of(form: Form) -> u8
         Form::Whole => 1,
         Form::Named => 1,
         Form::Bare(_) => 0,
+        Form::Sized(_, _) => 0,
+        Form::Packed(_, _) => 0,
     }
 }
 
@@ -207,7 +212,48 @@ pub fn typed_at(src: &[u8], form: Form, at: usize) -> Typed
 {
     match form {
         Form::Bare(t) => Typed::Standing(at, t),
+        Form::Sized(_, t) => Typed::Standing(at, t),
+        Form::Packed(_, t) => Typed::Standing(at, t),
         _ => identifier_at(src, at),
+    }
+}
+
+// The place of a value's data, and its class; or a refusal.
+pub enum Classed {
+    Data(usize, Class),
+    Unclassed(Refusal),
+}
+
+// The class of the value at a place, by its type.
+fn typed_class(src: &[u8], form: Form, at: usize) -> Classed
+    requires { ⌜ at ≤ length (now src) ⌝ }
+    ensures { λ r. ⌜ ClassAt (now (src .entry)) form at r ⌝ }
+{
+    match typed_at(src, form, at) {
+        Typed::Untyped(r) => Classed::Unclassed(r),
+        Typed::Standing(from, t) => Classed::Data(from, class_of(t)),
+    }
+}
+
+// The same, without its type where its form is enough.
+pub fn class_at(src: &[u8], form: Form, at: usize) -> Classed
+    requires { ⌜ at ≤ length (now src) ⌝ }
+    ensures { λ r. ⌜ ClassAt (now (src .entry)) form at r ⌝ }
+{
+    match form {
+        Form::Sized(n, _) => Classed::Data(at, Class::Fixed(n as usize)),
+        Form::Packed(w, _) => Classed::Data(at, Class::Int(w)),
+        _ => typed_class(src, form, at),
+    }
+}
+
+// The class of a type, by the form alone where that says that its values are integers.
+pub fn class_in(form: Form, t: i32) -> Class
+    ensures { λ r. ⌜ ClassIn form t r ⌝ }
+{
+    match form {
+        Form::Packed(w, _) => Class::Int(w),
+        _ => class_of(t),
     }
 }
 
@@ -236,11 +282,22 @@ pub fn alike(form: Form, count: usize, indexed: bool) -> Nest
     }
 }
 
+// The form of bare values of a type.
+fn bare_form(t: i32) -> Form
+    ensures { λ r. ⌜ r ≡ bareForm t ⌝ }
+{
+    match class_of(t) {
+        Class::Fixed(n) => Form::Sized(n as u8, t),
+        Class::Int(w) => Form::Packed(w, t),
+        _ => Form::Bare(t),
+    }
+}
+
 fn form_of(on: bool, t: i32) -> Form
     ensures { λ r. ⌜ r ≡ formOf on t ⌝ }
 {
     if on {
-        return Form::Bare(t);
+        return bare_form(t);
     }
     Form::Whole
 }
@@ -267,14 +324,15 @@ pub fn nest_of(shape: Shape, first: i32, second: i32, n: u32) -> Nest
 
 // ---- The next value of a container ----
 
-// A value at a place, with its label; the end, and the place past it; or a refusal.
+// A value at a place, with its label, and the position or least index after it; the end, and the place past it; or a refusal.
 pub enum Next {
-    Value(usize, u32),
+    Value(usize, u32, u32),
     End(usize),
     Halt(Refusal),
 }
 
 fn index_next(src: &[u8], top: usize, low: u32, at: usize) -> Next
+    requires { ⌜ top < 2 ^ 32 ⌝ }
     ensures { λ r. ⌜ IndexNext (now (src .entry)) top low at r ⌝ }
 {
     match integer::signed_at(src, at) {
@@ -292,7 +350,7 @@ fn index_next(src: &[u8], top: usize, low: u32, at: usize) -> Next
             if top <= (j as usize) {
                 return Next::Halt(out_of_bounds(at));
             }
-            Next::Value(next, j)
+            Next::Value(next, j, j + 1)
         }
     }
 }
@@ -308,7 +366,7 @@ fn label_of(paired: bool, i: u32) -> u32
 
 // The next value of a container, where `low` is the position of the next one, or with indexes the least index that may come.
 pub fn next_at(src: &[u8], indexed: bool, paired: bool, count: usize, low: u32, at: usize) -> Next
-    requires { ⌜ at ≤ length (now src) ⌝ }
+    requires { ⌜ (at ≤ length (now src)) × (count < 2 ^ 32) ⌝ }
     ensures { λ r. ⌜ NextAt (now (src .entry)) indexed paired count low at r ⌝ }
 {
     if indexed {
@@ -317,18 +375,7 @@ pub fn next_at(src: &[u8], indexed: bool, paired: bool, count: usize, low: u32, 
     if count <= (low as usize) {
         return Next::End(at);
     }
-    Next::Value(at, label_of(paired, low))
-}
-
-// The position, or least index, after a value with a label.
-pub fn low_after(indexed: bool, label: u32, low: u32) -> u32
-    requires { ⌜ nextLow indexed label low < 2 ^ 32 ⌝ }
-    ensures { λ r. ⌜ r ≡ nextLow indexed label low ⌝ }
-{
-    if indexed {
-        return label + 1;
-    }
-    low + 1
+    Next::Value(at, label_of(paired, low), low + 1)
 }
 
 // The form of the value at a position: of a map's keys and values, by turns.

@@ -15,11 +15,13 @@ use Rattle.format.specs.Values.{Form as Forms}
 use Rattle.format.specs.Grammar.{Element, Good, Formed, less, Ints, Held, Fits, Leveled, Deep, Valid}
 use Rattle.laws.proofs.Types.{all-sized, sized, amount-fits}
 use Rattle.decide.specs.declared.Form.{Form}
-use Rattle.decide.specs.declared.Form.the-variants.{Whole, Named, Bare}
+use Rattle.scalar.specs.declared.Bits.the-variants.{Bits32}
+use Rattle.decide.specs.declared.Form.the-variants.{Whole, Packed}
 use Rattle.decide.specs.declared.Nest.{Nest}
-use Rattle.decide.specs.Forms.{formOf, nestWith, turn}
+use Rattle.decide.specs.Forms.{unknown, known, says, Sound, formOf, nestWith, turn}
 use Rattle.decide.specs.Coming.{nextLow}
 use Rattle.decide.proofs.Forms.{turn-same, turn-next}
+use Rattle.decide.proofs.Plain.{bare-says, bare-sound}
 use Rattle.fill.specs.Numbers.{Stands}
 use Rattle.fill.specs.Rows.{several, nestBy, nestOf, Dated}
 use Rattle.fill.specs.Filling.{Fillable}
@@ -27,24 +29,16 @@ use Rattle.fill.proofs.Contained.{several-pieces}
 
 -- how a value stands, for the code and for the format
 abbrev pub FormIs : Form → Forms → Type 0
-FormIs Whole (whole once) = Unit {0}
-FormIs Whole (bare t) = ⊥
-FormIs Named (whole once) = Unit {0}
-FormIs Named (bare t) = ⊥
-FormIs (Bare s) (whole once) = ⊥
-FormIs (Bare s) (bare t) = (t ≡ s) × (kindOf t .carried ≡ true)
+FormIs w (whole once) = (says w ≡ unknown) × Sound w
+FormIs w (bare t) = (says w ≡ known t) × Sound w × (kindOf t .carried ≡ true)
 
 stands-so : (w : Form) (f : Forms) (h : Head) → FormIs w f → Formed f h → Stands w h × (kindOf (h .ty) .carried ≡ true)
-stands-so Whole (whole once) h m g = ((g .has-own, g .ty-fits), g .ty-carried)
-stands-so Whole (bare t) h m g = absurd m
-stands-so Named (whole once) h m g = ((g .has-own, g .ty-fits), g .ty-carried)
-stands-so Named (bare t) h m g = absurd m
-stands-so (Bare s) (whole once) h m g = absurd m
-stands-so (Bare s) (bare t) h m g = ((g .0, g .1 ∙ m .0), ap (λ (z : ℤ). kindOf z .carried) (g .1) ∙ m .1)
+stands-so w (whole once) h m g = ((rw (m .0) (g .has-own, g .ty-fits), m .1), g .ty-carried)
+stands-so w (bare t) h m g = ((rw (m .0) (g .0, g .1), m .1), ap (λ (z : ℤ). kindOf z .carried) (g .1) ∙ m .2)
 
 form-is : (b : Bool) (t : ℤ) → Element b t → FormIs (formOf b t) (formed b t)
-form-is true t g = (refl, g .1)
-form-is false t g = tt
+form-is true t g = (bare-says t, bare-sound t, g .1)
+form-is false t g = (refl, tt)
 
 -- what a container still expects, for the format and for the code from position or index `low` on
 abbrev pub Matches : Rule → Nest → ℕ → Type 0
@@ -72,25 +66,25 @@ isParts one = false
 isParts (parts d) = true
 
 rule-matches : (h : Head) (cs : Children) → Good (kindOf (h .ty)) h → (x : Holds) → kindOf (h .ty) .holds ≡ x → isParts x ≡ false → Matches (ruleBy (kindOf (h .ty)) x h) (nestBy (kindOf (h .ty)) x h cs) 0
-rule-matches h cs g nothing e p = (refl, refl, refl, refl, tt, tt)
+rule-matches h cs g nothing e p = (refl, refl, refl, refl, (refl, tt), (refl, tt))
 rule-matches h cs g values e p = let f = form-is (kindOf (h .ty) .first) (h .first) (g .first-good) in (refl, refl, add-zero _, refl, f, f)
 rule-matches h cs g couples e p = (refl, refl, add-zero _, refl, form-is (kindOf (h .ty) .first) (h .first) (g .first-good), form-is (kindOf (h .ty) .second) (h .second) (g .second-good))
 rule-matches h cs g indexes e p =
     let f = form-is (kindOf (h .ty) .first) (h .first) (g .first-good) in
     let l : mag (h .number) < 2 ^ 31 = amount-fits (kindOf (h .ty) .datum) (h .number) (subst (λ (x : Holds). sized x (kindOf (h .ty) .datum) ≡ true) e (all-sized (h .ty))) (g .number-good) in
     (refl, refl, omega arith, refl, f, f)
-rule-matches h cs g properties e p = (refl, refl, lit≤ tt, refl, tt, tt)
-rule-matches h cs g one e p = (refl, refl, refl, refl, tt, tt)
+rule-matches h cs g properties e p = (refl, refl, lit≤ tt, refl, (refl, tt), (refl, tt))
+rule-matches h cs g one e p = (refl, refl, refl, refl, (refl, tt), (refl, tt))
 rule-matches h cs g (parts d) e p = let z : _≡_ {A = ℕ} 0 1 = cc in absurd (omega arith)
 
 -- ---- the integers of a date or time
 
-pieces-fillable : (d i : ℕ) (l : List ℤ) (n : ℕ) → i + length l ≡ n → Ints l → Fillable (suc d) (nestWith false false (Bare (negsuc 1)) (Bare (negsuc 1)) n) i (pieces i l)
+pieces-fillable : (d i : ℕ) (l : List ℤ) (n : ℕ) → i + length l ≡ n → Ints l → Fillable (suc d) (nestWith false false (Packed Bits32 (negsuc 1)) (Packed Bits32 (negsuc 1)) n) i (pieces i l)
 unfolding Fillable pieces Ints kindOf nestOf
 pieces-fillable d i [] n e g = omega arith
 pieces-fillable d i (z ∷ l) n e g = (
   (omega arith, refl),
-  rw (turn-same (Bare (negsuc 1)) i) (refl, refl),
+  rw (turn-same (Packed Bits32 (negsuc 1)) i) ((refl, refl), (_, refl)),
   refl,
   record { first-good = refl; second-good = refl; number-good = g .0; text-good = refl },
   tt,
@@ -121,7 +115,7 @@ inner lv h cs again g = by (kindOf (h .ty) .holds) refl
     by (parts d) e f l =
         let p = f .usual-parts ++ f .offset-parts in
         let n : several cs ≡ length p = ap several (f .are-pieces) ∙ several-pieces 0 p in
-        (f, subst (λ (y : Children). Fillable (suc lv) (nestWith false false (Bare (negsuc 1)) (Bare (negsuc 1)) (several cs)) 0 y) (sym (f .are-pieces)) (pieces-fillable lv 0 p (several cs) (omega arith) (f .are-ints)))
+        (f, subst (λ (y : Children). Fillable (suc lv) (nestWith false false (Packed Bits32 (negsuc 1)) (Packed Bits32 (negsuc 1)) (several cs)) 0 y) (sym (f .are-pieces)) (pieces-fillable lv 0 p (several cs) (omega arith) (f .are-ints)))
 
 pub fillable : (lv : ℕ) (r : Rule) (n : Nest) (low : ℕ) (cs : Children) → Matches r n low → Fits r cs → Deep lv cs → Fillable (suc lv) n low cs
 unfolding Fits Deep Fillable
@@ -157,5 +151,5 @@ fillable (suc lv) (rising f top least) n low (child j h cs more) m e d =
 -- the outermost value, as the one value of a container: with one level more, for the integers of a date or time
 pub valid-fillable : (v : Value) → Valid v → Fillable (suc levels) (nestWith false false Whole Whole 1) 0 (childOf 0 v empty)
 unfolding Fits
-valid-fillable v k = fillable levels (counted false (whole false) (whole false) 1 0) (nestWith false false Whole Whole 1) 0 (childOf 0 v empty) (refl, refl, refl, refl, tt, tt)
+valid-fillable v k = fillable levels (counted false (whole false) (whole false) 1 0) (nestWith false false Whole Whole 1) 0 (childOf 0 v empty) (refl, refl, refl, refl, (refl, tt), (refl, tt))
     ((omega arith, refl, k .outermost), k .shaped .good, k .shaped .held, refl) (k .deep)

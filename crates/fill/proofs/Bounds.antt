@@ -9,7 +9,7 @@ use Rattle.decide.specs.declared.Form.{Form}
 use Rattle.decide.specs.declared.Nest.{Nest}
 use Rattle.decide.specs.declared.Next.{Next}
 use Rattle.decide.specs.declared.Next.the-variants.{Value, End}
-use Rattle.decide.specs.Coming.{nextLow, pastNext, NextAt}
+use Rattle.decide.specs.Coming.{pastNext, NextAt}
 use Rattle.fill.specs.declared.Found.{Found}
 use Rattle.fill.specs.declared.Found.the-variants.{Leaf, Holder}
 use Rattle.fill.specs.declared.Step.{Step}
@@ -48,11 +48,8 @@ module _ {o : List ℕ} {lim d : ℕ} {n : Nest} {from base : ℕ} {t₀ : Table
     pub turn-ends : {next : ℕ} → g ≡ End next → (rows - base < 2 ^ 32) × (next < 2 ^ 32)
     turn-ends q = let p = subst (pastNext o (n .indexed) (n .count) low at) q (follow .past) in (omega (arith, tn .room, ready .few), omega (arith, p .1, ready .short))
 
-    pub turn-ready : {next j : ℕ} → g ≡ Value next j → Ready o lim next rows t
+    pub turn-ready : {next j low' : ℕ} → g ≡ Value next j low' → Ready o lim next rows t
     turn-ready q = let p = subst (pastNext o (n .indexed) (n .count) low at) q (follow .past) in record { room = roomy (tn .kept) (ready .room); short = ready .short; few = ready .few; inside = p .1; below = tn .room }
-
-    pub turn-low : {next j : ℕ} → g ≡ Value next j → n .count < 2 ^ 32 → nextLow (n .indexed) j low < 2 ^ 32
-    turn-low q s = let p = subst (pastNext o (n .indexed) (n .count) low at) q (follow .past) in omega (arith, p .3)
 
 pub turn-more : {o : List ℕ} {lim d : ℕ} {n : Nest} {from base : ℕ} {t₀ : Table} {at low rows : ℕ} {t : Table} → Turn o lim d n from base t₀ at low rows t → base ≤ rows
 turn-more tn = tn .steps

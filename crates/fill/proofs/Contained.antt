@@ -33,7 +33,8 @@ use Rattle.decide.specs.declared.Element.{Element}
 use Rattle.decide.specs.declared.Element.the-variants.{Of, NoType}
 use Rattle.decide.specs.Classes.{holdsOf}
 use Rattle.decide.specs.Elements.{AmountAt}
-use Rattle.decide.specs.declared.Form.the-variants.{Named, Bare}
+use Rattle.scalar.specs.declared.Bits.the-variants.{Bits32}
+use Rattle.decide.specs.declared.Form.the-variants.{Named, Packed}
 use Rattle.decide.specs.Forms.{nestWith, nestIn}
 use Rattle.fill.specs.declared.Fore.{Fore}
 use Rattle.decide.specs.declared.Nest.{Nest}
@@ -64,20 +65,20 @@ unfolding spellNumber
 nought h = record { past = (omega arith, h); same = λ y g b. rw (add-zero, g) }
 
 parted : {o : List ℕ} {at n : ℕ} → at ≤ length o → n < 2 ^ 32 → (d : Which) → ((cs : Children) → Moments (partsOf d) cs → Begins o at (spellChildren false cs) → several cs ≡ n)
-    → DataAt o (dated (partsOf d)) at (Holder (foreWith (pos 0) (pos 0) (pos 0) 0 at) (nestWith false false (Bare (negsuc 1)) (Bare (negsuc 1)) n))
+    → DataAt o (dated (partsOf d)) at (Holder (foreWith (pos 0) (pos 0) (pos 0) 0 at) (nestWith false false (Packed Bits32 (negsuc 1)) (Packed Bits32 (negsuc 1)) n))
 parted {o} {at} {n} inside small d counts = record {
   past = ((omega arith, inside, omega arith), small);
   same = λ h cs g m b b'.
       let same : foreWith (pos 0) (pos 0) (pos 0) 0 at ≡ foreOf (dated (partsOf d)) h at = fore-bare (dated (partsOf d)) (element-none refl inside) refl (element-none refl inside) refl (nought inside) refl refl h g b in
       let count : several cs ≡ n = counts cs m (moved (ap (λ (f : Fore). f .end) same) b') in
-      ap₂ (λ (f : Fore) (i : ℕ). Holder f (nestWith false false (Bare (negsuc 1)) (Bare (negsuc 1)) i)) same (sym count);
+      ap₂ (λ (f : Fore) (i : ℕ). Holder f (nestWith false false (Packed Bits32 (negsuc 1)) (Packed Bits32 (negsuc 1)) i)) same (sym count);
 }
 
 module _ {o : List ℕ} {at : ℕ} (inside : at ≤ length o) {f : Fore} (e : f ≡ foreWith (pos 0) (pos 0) (pos 0) 0 at) where
-  pub date-holder : {d : Which} → d ≡ Date → {n : Nest} → n ≡ nestWith false false (Bare (negsuc 1)) (Bare (negsuc 1)) 3 → DataAt o (dated (partsOf d)) at (Holder f n)
+  pub date-holder : {d : Which} → d ≡ Date → {n : Nest} → n ≡ nestWith false false (Packed Bits32 (negsuc 1)) (Packed Bits32 (negsuc 1)) 3 → DataAt o (dated (partsOf d)) at (Holder f n)
   date-holder q r = rw (e, q, r) (parted inside (omega arith) Date λ cs m b. ap several (m .are-pieces) ∙ several-pieces 0 _ ∙ length-append (m .usual-parts) (m .offset-parts) ∙ rw (m .usual-count, m .offset-count))
 
-  pub moment-holder : (d : Which) {x : Moment} → Passing o at 10 (countOf (partsOf d)) x → {next k : ℕ} → x ≡ Parts next k → {n : Nest} → n ≡ nestWith false false (Bare (negsuc 1)) (Bare (negsuc 1)) k → DataAt o (dated (partsOf d)) at (Holder f n)
+  pub moment-holder : (d : Which) {x : Moment} → Passing o at 10 (countOf (partsOf d)) x → {next k : ℕ} → x ≡ Parts next k → {n : Nest} → n ≡ nestWith false false (Packed Bits32 (negsuc 1)) (Packed Bits32 (negsuc 1)) k → DataAt o (dated (partsOf d)) at (Holder f n)
   moment-holder d passing {next} {k} s r =
       let p = subst (momentPast o at 10) s (passing .past) in
       rw (e, r) (parted inside (omega arith) d λ cs m b.

@@ -75,17 +75,17 @@ unfolding rowsFrom
 child-rows x at next j h cs more e = rw (e, add-zero, append-nil (rowsFrom (indexed (ruleOf h)) (at + length (index x (pos j)) + length (fore h)) cs))
 
 -- what comes next of values
-abbrev nextOf : Bool → ℕ → Children → Next
-nextOf x at empty = End (at + length (index x (negsuc 0)))
-nextOf x at (child j h cs more) = Value (at + length (index x (pos j))) j
+abbrev nextOf : Bool → ℕ → ℕ → Children → Next
+nextOf x low at empty = End (at + length (index x (negsuc 0)))
+nextOf x low at (child j h cs more) = Value (at + length (index x (pos j))) j (nextLow x j low)
 
-no-value : {a b j : ℕ} → _≡_ {A = Next} (End a) (Value b j) → ⊥
+no-value : {a b j k : ℕ} → _≡_ {A = Next} (End a) (Value b j k) → ⊥
 no-value h = let z : _≡_ {A = ℕ} 0 1 = cc in omega arith
 
-following-place : {a b i j : ℕ} → _≡_ {A = Next} (Value a i) (Value b j) → a ≡ b
+following-place : {a b i j k m : ℕ} → _≡_ {A = Next} (Value a i k) (Value b j m) → a ≡ b
 following-place h = cc
 
-following-label : {a b i j : ℕ} → _≡_ {A = Next} (Value a i) (Value b j) → i ≡ j
+following-label : {a b i j k m : ℕ} → _≡_ {A = Next} (Value a i k) (Value b j m) → i ≡ j
 following-label h = cc
 
 end-place : {a b : ℕ} → _≡_ {A = Next} (End a) (End b) → a ≡ b
@@ -97,15 +97,15 @@ on-next h = cc
 on-rows : {a b m n : ℕ} → _≡_ {A = Step} (On a m) (On b n) → m ≡ n
 on-rows h = cc
 
-no-next : {r : Refusal} {a : Next} → Halt r ≡ a → (x : Bool) (at : ℕ) (cs : Children) → a ≡ nextOf x at cs → ⊥
-no-next e x at empty q = let z : _≡_ {A = ℕ} 0 1 = cc in omega arith
-no-next e x at (child j h cs more) q = let z : _≡_ {A = ℕ} 0 1 = cc in omega arith
+no-next : {r : Refusal} {a : Next} → Halt r ≡ a → (x : Bool) (low at : ℕ) (cs : Children) → a ≡ nextOf x low at cs → ⊥
+no-next e x low at empty q = let z : _≡_ {A = ℕ} 0 1 = cc in omega arith
+no-next e x low at (child j h cs more) q = let z : _≡_ {A = ℕ} 0 1 = cc in omega arith
 
 no-step : {a m : ℕ} → _≡_ {A = Step} Unread (On a m) → ⊥
 no-step h = let z : _≡_ {A = ℕ} 0 1 = cc in omega arith
 
 module _ {o : List ℕ} {lim d : ℕ} {n : Nest} {from base : ℕ} {t₀ : Table} {at low rows : ℕ} {t : Table} (tn : Turn o lim d n from base t₀ at low rows t) {g : Next} (follow : NextAt o (n .indexed) (n .paired) (n .count) low at g) where
-  next-is : (d' : ℕ) (cs : Children) → Fillable d' n low cs → Begins o at (spellChildren (n .indexed) cs) → g ≡ nextOf (n .indexed) at cs
+  next-is : (d' : ℕ) (cs : Children) → Fillable d' n low cs → Begins o at (spellChildren (n .indexed) cs) → g ≡ nextOf (n .indexed) low at cs
   unfolding Fillable spellChildren
   next-is d empty f b = ended follow f b
   next-is zero (child j h cs more) f b = absurd f
@@ -118,12 +118,12 @@ module _ {o : List ℕ} {lim d : ℕ} {n : Nest} {from base : ℕ} {t₀ : Table
   ends q cs empty f b r p e = (sym (add-zero rows) ∙ r, end-place (sym q ∙ next-is d empty f b) ∙ p, e)
   ends q cs (child j h inner more) f b r p e = absurd (no-value (sym q ∙ next-is d (child j h inner more) f b))
 
-  module _ {next j : ℕ} (q : g ≡ Value next j) {r : Step} {t' : Table} (filled : FilledValue o lim (turn (n .form) (n .other) low) j next rows d t r t') where
+  module _ {next j low' : ℕ} (q : g ≡ Value next j low') {r : Step} {t' : Table} (filled : FilledValue o lim (turn (n .form) (n .other) low) j next rows d t r t') where
     value-is : (d' : ℕ) → d ≡ suc d' → (j' : ℕ) (h : Head) (cs more : Children) → Fillable (suc d') n low (child j' h cs more) → Begins o at (spellChildren (n .indexed) (child j' h cs more)) → rows + count (child j' h cs more) ≤ lim → Blank lim rows t
         → (next ≡ at + length (index (n .indexed) (pos j'))) × (j ≡ j') × (r ≡ On (next + length (spell (value h cs))) (rows + suc (count cs))) × (t' ≡ puts lim t rows (rowsFrom false next (child j h cs empty)))
     unfolding Fillable count
     value-is d' e j' h cs more f b l bl =
-        let w : Value next j ≡ Value (at + length (index (n .indexed) (pos j'))) j' = sym q ∙ next-is (suc d') (child j' h cs more) f b in
+        let w : Value next j low' ≡ Value (at + length (index (n .indexed) (pos j'))) j' (nextLow (n .indexed) j' low) = sym q ∙ next-is (suc d') (child j' h cs more) f b in
         let b' = begins-right (index (n .indexed) (pos j')) (spell (value h cs) ++ spellChildren (n .indexed) more) (subst (Begins o at) (child-spelt (n .indexed) j' h cs more) b) in
         let fit : Fit d (turn (n .form) (n .other) low) h cs = record { stands = f .1; carried = f .2; good = f .3; dated = f .4; within = subst (λ (y : ℕ). Within y (nestOf h cs) cs) (sym e) (f .5) } in
         let s = filled .same h cs fit (moved (following-place w) (begins-left (spell (value h cs)) (spellChildren (n .indexed) more) b')) (omega arith) bl in
@@ -159,20 +159,20 @@ module _ {o : List ℕ} {lim d : ℕ} {n : Nest} {from base : ℕ} {t₀ : Table
     stop-on z zero e (child j' h cs more) f b l bl = f
     stop-on z (suc d') e (child j' h cs more) f b l bl = no-step (sym z ∙ value-is d' (sym e) j' h cs more f b l bl .2)
 
-    past : pastNext o (n .indexed) (n .count) low at (Value next j)
+    past : pastNext o (n .indexed) (n .count) low at (Value next j low')
     past = subst (pastNext o (n .indexed) (n .count) low at) q (follow .past)
 
-    pub turn-less : {low' : ℕ} → low' ≡ nextLow (n .indexed) j low → n .count - low' < n .count - low
-    turn-less z = omega (arith, past .2, past .3)
+    pub turn-less : n .count - low' < n .count - low
+    turn-less = omega (arith, past .2, past .3)
 
-    pub turn-again : {at₂ rows₂ low' : ℕ} → r ≡ On at₂ rows₂ → low' ≡ nextLow (n .indexed) j low → Kept t' t → Turn o lim d n from base t₀ at₂ low' rows₂ t'
-    turn-again {at₂} {rows₂} z w ks =
+    pub turn-again : {at₂ rows₂ : ℕ} → r ≡ On at₂ rows₂ → Kept t' t → Turn o lim d n from base t₀ at₂ low' rows₂ t'
+    turn-again {at₂} {rows₂} z ks =
         let v = subst (Advanced o lim next (suc rows)) z (filled .advanced) in
-        rw w record {
+        rw (past .4) record {
           inside = v .1;
           past = omega (arith, tn .past, past .0, v .0);
           steps = omega (arith, tn .steps, v .2);
-          apt = past .3;
+          apt = omega (arith, past .3, past .4);
           room = v .3;
           kept = kept-trans ks (tn .kept);
           rest = λ cs f b l bl.
@@ -198,7 +198,7 @@ module _ {o : List ℕ} {lim d : ℕ} {n : Nest} {from base : ℕ} {t₀ : Table
   pub elements-unread : {y : Refusal} {row : Row} {k : ℕ} → from ≡ row .end → g ≡ Halt y → FilledElements o lim row n k base d t₀ Unread t
   elements-unread e z = record {
     advanced = tt;
-    same = λ cs f b l bl. let lf = tn .rest cs f (moved e b) l bl in absurd (no-next (sym z) (n .indexed) at (lf .left) (next-is d (lf .left) (lf .fits) (lf .begun)));
+    same = λ cs f b l bl. let lf = tn .rest cs f (moved e b) l bl in absurd (no-next (sym z) (n .indexed) low at (lf .left) (next-is d (lf .left) (lf .fits) (lf .begun)));
   }
 
   pub elements-end : {row : Row} {k next : ℕ} {t' : Table} → from ≡ row .end → g ≡ End next → Stored lim k (closed row (rows - base) next) t t' → FilledElements o lim row n k base d t₀ (On next rows) t'

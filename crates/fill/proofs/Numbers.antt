@@ -46,19 +46,18 @@ use Rattle.decide.specs.declared.Amount.{Amount}
 use Rattle.decide.specs.declared.Amount.the-variants.{Number as Amounts, NoNumber}
 use Rattle.decide.specs.Elements.{amountOut, pastAmount, AmountAt, TypeIs, TypeAt}
 use Rattle.decide.specs.declared.Form.{Form}
-use Rattle.decide.specs.declared.Form.the-variants.{Whole, Named, Bare}
 use Rattle.decide.specs.declared.Typed.{Typed}
 use Rattle.decide.specs.declared.Typed.the-variants.{Standing, Untyped}
-use Rattle.decide.specs.Forms.{ownOf, IdentifierIs, TypedIs, TypedAt}
+use Rattle.decide.specs.Forms.{Says, unknown, known, says, ownBy, ownOf, IdentifierIs, TypedBy, TypedAt, OfType}
 use Rattle.fill.specs.declared.Numbered.the-variants.{Number, Missing}
-use Rattle.fill.specs.Numbers.{Begins, Stands, NumberAt, Implied}
+use Rattle.fill.specs.Numbers.{Begins, StandsBy, Stands, NumberAt, Implied}
 use Rattle.fill.proofs.Begins.{unnamed, same-place, same-value, read-is, found, not-refused}
 
 -- ---- types
 
 -- the type of a value that stands in a form
 pub typed-is : {o : List ℕ} {form : Form} {at : ℕ} {x : Typed} → TypedAt o form at x → (h : Head) → Stands form h → Begins o at (identifier h) → x ≡ Standing (at + length (identifier h)) (h .ty)
-typed-is {o} {form} {at} {x} typed h s b = by form x (typed .is) s
+typed-is {o} {form} {at} {x} typed h s b = by (says form) x (typed .is) (s .0)
   where
     whole : (y : Typed) → IdentifierIs o at y → h .own ≡ 1 → Int32 (h .ty) → y ≡ Standing (at + length (identifier h)) (h .ty)
     whole (Standing from t) i a f =
@@ -66,16 +65,25 @@ typed-is {o} {form} {at} {x} typed h s b = by form x (typed .is) s
         rw (owned h a, ← w .1, ← w .0)
     whole (Untyped r) i a f = absurd (not-refused (integer-does wide32 enough32 (h .ty) unnamed f) (subst (Begins o at) (owned h a) b) (sym (i unnamed)))
 
-    by : (form : Form) (y : Typed) → TypedIs o form at y → Stands form h → y ≡ Standing (at + length (identifier h)) (h .ty)
-    by Whole y i s = whole y i (s .0) (s .1)
-    by Named y i s = whole y i (s .0) (s .1)
-    by (Bare t) (Standing from u) i s = rw (unowned h (s .0), add-zero, s .1, i .0, i .1)
-    by (Bare t) (Untyped r) i s = absurd i
+    by : (k : Says) (y : Typed) → TypedBy o k at y → StandsBy k h → y ≡ Standing (at + length (identifier h)) (h .ty)
+    by unknown y i s = whole y i (s .0) (s .1)
+    by (known t) (Standing from u) i s = rw (unowned h (s .0), add-zero, s .1, i .0, i .1)
+    by (known t) (Untyped r) i s = absurd i
 
 pub own-is : (form : Form) (h : Head) → Stands form h → ownOf form ≡ h .own
-own-is Whole h s = sym (s .0)
-own-is Named h s = sym (s .0)
-own-is (Bare t) h s = sym (s .0)
+own-is form h s = by (says form) (s .0)
+  where
+    by : (k : Says) → StandsBy k h → ownBy k ≡ h .own
+    by unknown s = sym (s .0)
+    by (known t) s = sym (s .0)
+
+-- and that its form may have
+pub of-type : (form : Form) (h : Head) → Stands form h → OfType (says form) (h .ty)
+of-type form h s = by (says form) (s .0)
+  where
+    by : (k : Says) → StandsBy k h → OfType k (h .ty)
+    by unknown s = tt
+    by (known t) s = sym (s .1)
 
 -- ---- element types, where one stands
 

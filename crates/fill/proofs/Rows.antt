@@ -23,7 +23,7 @@ use Rattle.fill.specs.declared.Found.{Found}
 use Rattle.fill.specs.declared.Found.the-variants.{Leaf as LeafRow, Holder as HolderRow, Unread as NoRow}
 use Rattle.decide.specs.Forms.{ownOf, pastTyped, TypedAt}
 use Rattle.fill.specs.Numbers.{Begins, Stands}
-use Rattle.fill.proofs.Numbers.{typed-is, own-is}
+use Rattle.fill.proofs.Numbers.{typed-is, own-is, of-type}
 use Rattle.fill.specs.Rows.{nestBy, nestOf, Dated, foreOf, dataWith, pastFore, pastData, DataOf, frontRow, rowWith, foundBy, pastFound, RowAt}
 use Rattle.fill.proofs.Begins.{begins-left, begins-right, moved}
 
@@ -39,10 +39,10 @@ untyped h = let z : _≡_ {A = ℕ} 0 1 = cc in omega arith
 pub typed-past : {o : List ℕ} {form : Form} {at : ℕ} {x : Typed} {from : ℕ} {t : ℤ} → TypedAt o form at x → x ≡ Standing from t → (at ≤ from) × (from ≤ length o)
 typed-past {o} {at = at} x q = subst (pastTyped o at) q (x .past)
 
-pub leaf-past : {o : List ℕ} {t : ℤ} {at : ℕ} {x : Data} {f : Fore} → DataOf o t at x → x ≡ Leaf f → pastFore o at f
+pub leaf-past : {o : List ℕ} {form : Form} {t : ℤ} {at : ℕ} {x : Data} {f : Fore} → DataOf o form t at x → x ≡ Leaf f → pastFore o at f
 leaf-past {o} {at = at} x q = subst (pastData o at) q (x .past) .0
 
-pub holder-past : {o : List ℕ} {t : ℤ} {at : ℕ} {x : Data} {f : Fore} {n : Nest} → DataOf o t at x → x ≡ Holder f n → pastFore o at f
+pub holder-past : {o : List ℕ} {form : Form} {t : ℤ} {at : ℕ} {x : Data} {f : Fore} {n : Nest} → DataOf o form t at x → x ≡ Holder f n → pastFore o at f
 holder-past {o} {at = at} x q = subst (pastData o at) q (x .past) .0
 
 fore-is : {o : List ℕ} {at : ℕ} (h : Head) → Begins o at (fore h) → Begins o at (identifier h ++ dataBy (kindOf (h .ty)) h)
@@ -78,7 +78,7 @@ nest-is : (h : Head) (cs : Children) → nestOf h cs ≡ nestBy (kindOf (h .ty))
 unfolding nestOf
 nest-is h cs = refl
 
-module _ {o : List ℕ} {form : Form} {at : ℕ} {x : Typed} (typed : TypedAt o form at x) {from : ℕ} {t t' : ℤ} (q : x ≡ Standing from t) (e : t' ≡ t) {y : Data} (reads : DataOf o t' from y) where
+module _ {o : List ℕ} {form : Form} {at : ℕ} {x : Typed} (typed : TypedAt o form at x) {from : ℕ} {t t' : ℤ} (q : x ≡ Standing from t) (e : t' ≡ t) {y : Data} (reads : DataOf o form t' from y) where
   end-same : (h : Head) → Stands form h → Begins o at (fore h) → from + length (dataBy (kindOf (h .ty)) h) ≡ at + length (fore h)
   end-same h s b = let l : from ≡ at + length (identifier h) = standing-from (sym q ∙ type-is typed h s b) in omega (arith, fore-long h)
 
@@ -87,7 +87,7 @@ module _ {o : List ℕ} {form : Form} {at : ℕ} {x : Typed} (typed : TypedAt o 
   data-is v s k g d b b' =
       let h = v .top in
       let w = sym q ∙ type-is typed h s b in
-      rw (nest-is h (v .inside)) (subst (λ (z : ℤ). DataOf o z from y) (e ∙ standing-type w) reads .same k .same h (v .inside) g d
+      rw (nest-is h (v .inside)) (subst (λ (z : ℤ). DataOf o form z from y) (e ∙ standing-type w) reads .same (s .1) (of-type form h s) k .same h (v .inside) g d
       (moved (standing-from w) (begins-right (identifier h) (dataBy (kindOf (h .ty)) h) (fore-is h b)))
       (moved (end-same h s b) (subst (λ (n : Nest). Begins o (at + length (fore h)) (spellChildren (n .indexed) (v .inside))) (nest-is h (v .inside)) b')))
 

@@ -10,7 +10,7 @@ use Rattle.format.specs.Data.{spellNumber}
 use Rattle.format.specs.Values.{Head}
 use Rattle.format.specs.Grammar.{Int32, Number as Numbers}
 use Rattle.decide.specs.declared.Form.{Form}
-use Rattle.decide.specs.declared.Form.the-variants.{Whole, Named, Bare}
+use Rattle.decide.specs.Forms.{Says, unknown, known, says, Sound}
 use Rattle.fill.specs.declared.Numbered.{Numbered}
 use Rattle.fill.specs.declared.Numbered.the-variants.{Number, Missing}
 
@@ -20,10 +20,12 @@ pub record Begins (o : List ℕ) (at : ℕ) (u : List ℕ) : Type 0 where
   pub begins : drop at o ≡ u ++ after
 
 -- a value that stands in a form
+abbrev pub StandsBy : Says → Head → Type 0
+StandsBy unknown h = (h .own ≡ 1) × Int32 (h .ty)
+StandsBy (known t) h = (h .own ≡ 0) × (h .ty ≡ t)
+
 abbrev pub Stands : Form → Head → Type 0
-Stands Whole h = (h .own ≡ 1) × Int32 (h .ty)
-Stands Named h = (h .own ≡ 1) × Int32 (h .ty)
-Stands (Bare t) h = (h .own ≡ 0) × (h .ty ≡ t)
+Stands form h = StandsBy (says form) h × Sound form
 
 -- ---- the number
 

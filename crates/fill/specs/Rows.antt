@@ -14,10 +14,11 @@ use Rattle.format.specs.Grammar.{Good, Moment}
 use Rattle.format.specs.Rows.{hasContents, rowOf}
 use Rattle.columns.specs.Columns.{Single}
 use Rattle.decide.specs.declared.Form.{Form}
-use Rattle.decide.specs.declared.Form.the-variants.{Whole, Named, Bare}
+use Rattle.scalar.specs.declared.Bits.the-variants.{Bits32}
+use Rattle.decide.specs.declared.Form.the-variants.{Whole, Named, Packed}
 use Rattle.decide.specs.declared.Nest.{Nest}
 use Rattle.decide.specs.declared.Inside.the-variants.{List as Several, Pairs, Sparse, User}
-use Rattle.decide.specs.Forms.{nestWith, nestIn}
+use Rattle.decide.specs.Forms.{says, Sound, OfType, nestWith, nestIn}
 use Rattle.fill.specs.declared.Numbered.{Numbered}
 use Rattle.fill.specs.declared.Numbered.the-variants.{Number, Missing}
 use Rattle.fill.specs.declared.Fore.{Fore}
@@ -42,7 +43,7 @@ nestBy k couples h cs = nestIn Pairs (k .first) (k .second) (h .first) (h .secon
 nestBy k indexes h cs = nestIn Sparse (k .first) (k .second) (h .first) (h .second) (mag (h .number))
 nestBy k properties h cs = nestIn User (k .first) (k .second) (h .first) (h .second) (mag (h .number))
 nestBy k one h cs = nestWith false false Named Named 1
-nestBy k (parts d) h cs = nestWith false false (Bare (negsuc 1)) (Bare (negsuc 1)) (several cs)
+nestBy k (parts d) h cs = nestWith false false (Packed Bits32 (negsuc 1)) (Packed Bits32 (negsuc 1)) (several cs)
 
 unfoldable pub nestOf : Head → Children → Nest
 nestOf h cs = nestBy (kindOf (h .ty)) (kindOf (h .ty) .holds) h cs
@@ -93,10 +94,10 @@ pub record DataAt (o : List ℕ) (k : Kind) (at : ℕ) (r : Data) : Type 0 where
   pub same : (h : Head) (cs : Children) → Good k h → Dated (k .holds) cs → Begins o at (dataBy k h) → Begins o (at + length (dataBy k h)) (spellChildren (nestBy k (k .holds) h cs .indexed) cs)
       → r ≡ dataWith (k .holds) (foreOf k h at) (nestBy k (k .holds) h cs)
 
--- the data of a value of a type that is carried
-pub record DataOf (o : List ℕ) (t : ℤ) (at : ℕ) (r : Data) : Type 0 where
+-- the data of a value that stands in a form, of a type that is carried
+pub record DataOf (o : List ℕ) (form : Form) (t : ℤ) (at : ℕ) (r : Data) : Type 0 where
   pub past : pastData o at r
-  pub same : kindOf t .carried ≡ true → DataAt o (kindOf t) at r
+  pub same : Sound form → OfType (says form) t → kindOf t .carried ≡ true → DataAt o (kindOf t) at r
 
 -- ---- a value's row, up to the values inside: without their rows, and ending where they begin
 

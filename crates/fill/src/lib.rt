@@ -22,6 +22,7 @@ use decide::Shape;
 use decide::Typed;
 use format::Row;
 use integer::Read64;
+use scalar::Bits;
 use scalar::Coded;
 use scalar::Moment;
 use scalar::Which;
@@ -157,12 +158,15 @@ fn moment_data(src: &[u8], at: usize, which: Which) -> Data
     ensures { λ r. ⌜ DataAt (now (src .entry)) (dated (partsOf which)) at r ⌝ }
 {
     match which {
-        Which::Date => Data::Holder(plain(0, at), decide::alike(Form::Bare(-2), 3, false)),
+        Which::Date => Data::Holder(
+            plain(0, at),
+            decide::alike(Form::Packed(Bits::Bits32, -2), 3, false),
+        ),
         _ => match scalar::moment_past(src, at, which) {
             Moment::Unfit(_) => Data::Unread,
             Moment::Parts(_, n) => Data::Holder(
                 plain(0, at),
-                decide::alike(Form::Bare(-2), n, false),
+                decide::alike(Form::Packed(Bits::Bits32, -2), n, false),
             ),
         },
     }
@@ -208,12 +212,12 @@ fn holder_data(src: &[u8], shape: Shape, at: usize) -> Data
     }
 }
 
-// The data of a value of a type.
-fn data_at(src: &[u8], ty: i32, at: usize) -> Data
+// The data of a value that stands in a form, of a type.
+fn data_at(src: &[u8], form: Form, ty: i32, at: usize) -> Data
     requires { ⌜ at ≤ length (now src) ⌝ }
-    ensures { λ r. ⌜ DataOf (now (src .entry)) ty at r ⌝ }
+    ensures { λ r. ⌜ DataOf (now (src .entry)) form ty at r ⌝ }
 {
-    match decide::class_of(ty) {
+    match decide::class_in(form, ty) {
         Class::Refused => Data::Unread,
         Class::Small => Data::Leaf(plain(implied_number(ty), at)),
         Class::Int(_) => number_data(int_number(src, at)),
@@ -263,7 +267,7 @@ fn row_at(src: &[u8], form: Form, label: u32, at: usize) -> Found
 {
     match decide::typed_at(src, form, at) {
         Typed::Untyped(_) => Found::Unread,
-        Typed::Standing(from, ty) => match data_at(src, ty, from) {
+        Typed::Standing(from, ty) => match data_at(src, form, ty, from) {
             Data::Unread => Found::Unread,
             Data::Leaf(f) => Found::Leaf(front_row(ty, decide::own_of(form), label, f, at)),
             Data::Holder(f, nest) => Found::Holder(
@@ -415,7 +419,7 @@ fn fill_elements(
                 );
                 return Step::On(next, rows);
             }
-            Next::Value(next, name) => match fill_value(
+            Next::Value(next, name, after) => match fill_value(
                 src,
                 ty,
                 own,
@@ -438,7 +442,7 @@ fn fill_elements(
                 Step::On(at2, rows2) => {
                     at = at2;
                     rows = rows2;
-                    low = decide::low_after(indexed, name, low);
+                    low = after;
                 }
             },
         }

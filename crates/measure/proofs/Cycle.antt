@@ -149,10 +149,10 @@ module _ (o l : List ℕ) (w : Form) (at rows depth : ℕ) where
       going = tt;
     }
 
-    pub value-single : {next parts : ℕ} → p ≡ Single next parts → CanRead o l w at rows → HasRead o l w at rows depth (On next (rows + 1 + parts)) l
-    value-single {next} {parts} e can = let q = subst (PlanIs o l (at + 1) _) e (plan .plan (can .stands .0) (can .stands .1)) in rw less record {
+    pub value-single : {next n : ℕ} → p ≡ Single next n → CanRead o l w at rows → HasRead o l w at rows depth (On next (rows + n)) l
+    value-single {next} {n} e can = let q = subst (PlanIs o l (at + 1) _) e (plan .plan (can .stands .0) (can .stands .1)) in rw less record {
       same = λ f s. let k = subst (PlanIs o l (at + 1) _) e (plan .plan f s) in
-          sym (plus-got rows (valueRows (each (dataOf (suc (depth - 1))) f)) (k .3 (depth - 1)) ∙ ap (λ (n : ℕ). got n (stand o next (envOf l))) (omega arith));
+          sym (plus-got rows (valueRows (each (dataOf (suc (depth - 1))) f)) (k .3 (depth - 1)));
       going = (q .0, q .1, omega (arith, q .0, q .2, can .few), can .good, refl);
     }
 
@@ -231,15 +231,12 @@ module _ {o l₀ : List ℕ} {depth : ℕ} {x p : Bool} {count : ℕ} {w v : For
       turning .same f h k ∙ rest-coming (dataOf depth) x p f h count low rows (stand o at (envOf l)) (turning .apt) (k .alike)
       ∙ ap (countComing (dataOf depth) (turn f h low) (λ j. rest x p f h count (nextLow x j low)) rows) (sym (comes .same (envOf l)))
 
-  module _ {next j : ℕ} (e : g ≡ Value next j) where
-    past : pastNext o x count low at (Value next j)
+  module _ {next j low' : ℕ} (e : g ≡ Value next j low') where
+    past : pastNext o x count low at (Value next j low')
     past = subst (pastNext o x count low at) e (comes .past)
 
-    pub low-fits : nextLow x j low < 2 ^ 32
-    low-fits = omega (arith, past .3, turning .small)
-
-    pub turning-less : {low' : ℕ} → low' ≡ nextLow x j low → count - low' < count - low
-    turning-less z = omega (arith, past .2, past .3)
+    pub turning-less : count - low' < count - low
+    turning-less = omega (arith, past .2, past .3)
 
     module _ {t : Form} (is-turn : t ≡ turn w v low) where
       pub turning-can-read : CanRead o l t next rows
@@ -260,15 +257,15 @@ module _ {o l₀ : List ℕ} {depth : ℕ} {x p : Bool} {count : ℕ} {w v : For
             at-next f h k ∙ ap (λ (y : Next). countComing (dataOf depth) (turn f h low) (λ j. rest x p f h count (nextLow x j low)) rows (nextOut o (envOf l) y)) e
             ∙ ap (λ (y : Out ℕ). follow y (λ k. plus k (childRows (dataOf depth) (rest x p f h count (nextLow x j low))))) (sym (read .same (turn f h low) (rw is-turn (stands-turn low (k .first) (k .second)))))
 
-        pub turning-again : {there more low' : ℕ} → r ≡ On there more → low' ≡ nextLow x j low → Turning o l₀ depth x p count w v at₀ rows₀ after there low' more
-        turning-again {there} {more} d z =
+        pub turning-again : {there more : ℕ} → r ≡ On there more → Turning o l₀ depth x p count w v at₀ rows₀ after there low' more
+        turning-again {there} {more} d =
             let q = subst (Going o l after (next + 1)) d (read .going) in
-            rw z record {
+            rw (past .4) record {
               same = λ f h k. after-value f h k ∙ ap (λ (y : Step). follow (stepOut o (envOf after) y) (λ k. plus k (childRows (dataOf depth) (rest x p f h count (nextLow x j low))))) d;
               further = omega (arith, turning .further, past .0, q .0);
               within = q .1;
               few = q .2;
-              apt = past .3;
+              apt = omega (arith, past .3, past .4);
               small = turning .small;
               good = q .3;
               level = omega (arith, turning .level, q .4);
@@ -318,9 +315,9 @@ module _ {o l l₀ : List ℕ} {n : Contents} {before : ℕ} (depth : ℕ) (can 
           going = (omega (arith, turning .further, q .0), q .1, omega (arith, turning .few, q .0), c .good, omega (arith, turning .level, b .more, b .as-many, c .as-many, c .more));
         }
 
-    pub held-stopped : {next j : ℕ} {t : Form} {r : Step} {after : List ℕ} {q : Refusal} → g ≡ Value next j → t ≡ turn (n .nest .form) (n .nest .other) low
+    pub held-stopped : {next j low' : ℕ} {t : Form} {r : Step} {after : List ℕ} {q : Refusal} → g ≡ Value next j low' → t ≡ turn (n .nest .form) (n .nest .other) low
         → HasRead o l' t next rows depth r after → r ≡ Stop q → HasHeld o l n before depth (Stop q) after
-    held-stopped {next} {j} {t} {r} {after} {q} e u read d = record {
+    held-stopped {next} {j} {low'} {t} {r} {after} {q} e u read d = record {
       same = λ f h k. held-by f h (stop q) (after-value turning comes e u read f h k ∙ ap (λ (y : Step). follow (stepOut o (envOf after) y) (λ k. plus k (childRows (dataOf depth) (expects f h (nextLow (n .nest .indexed) j low))))) d);
       going = tt;
     }
@@ -339,5 +336,5 @@ some-level h = omega arith
 pub rows-fit : {o l : List ℕ} {w : Form} {at rows : ℕ} → CanRead o l w at rows → rows + 1 < 2 ^ 64
 rows-fit c = omega (arith, c .few, c .within, c .short)
 
-pub parts-fit : {o l : List ℕ} {w : Form} {at rows next parts : ℕ} {p : Plan} → CanRead o l w at rows → ValuePlan o l w at p → p ≡ Single next parts → rows + 1 + parts < 2 ^ 64
-parts-fit {o} {l} {at} c plan e = let q = subst (PlanIs o l (at + 1) _) e (plan .plan (c .stands .0) (c .stands .1)) in omega (arith, q .2, c .few, c .within, c .short)
+pub single-fits : {o l : List ℕ} {w : Form} {at rows next n : ℕ} {p : Plan} → CanRead o l w at rows → ValuePlan o l w at p → p ≡ Single next n → rows + n < 2 ^ 64
+single-fits {o} {l} {at} c plan e = let q = subst (PlanIs o l (at + 1) _) e (plan .plan (c .stands .0) (c .stands .1)) in omega (arith, q .2, c .few, c .within, c .short)

@@ -40,7 +40,7 @@ unfolding envOf listed
 fresh-env {l} f = rw (f .no-given, f .no-ended)
 
 whole-forms : Standing Whole Whole false (whole false) (whole false)
-whole-forms = record { first = record { means = refl }; second = record { means = refl }; alike = tt }
+whole-forms = record { first = record { means = (refl, refl); sound = tt }; second = record { means = (refl, refl); sound = tt }; alike = tt }
 
 pub first-can-hold : {o l : List ℕ} {at : ℕ} {k : Nest} → k ≡ alikeNest Whole 1 false → at ≤ length o → length o ≤ 65535 → Fresh l → CanHold o l (contentsOf k at) 0
 first-can-hold {o} {l} {at} q h s f = rw q record {

@@ -1,5 +1,5 @@
 -- The type of a value, as the code finds it.
-use mathlib.Core.Path.{_≡_, refl, sym, ap, _∙_}
+use mathlib.Core.Path.{_≡_, refl, sym, ap, subst, _∙_}
 use mathlib.Core.Bool.{Bool, true, false, _&&_}
 use mathlib.Core.List.{List}
 use mathlib.Core.Logic.{_⊎_, inl, inr}
@@ -15,10 +15,10 @@ use Rattle.format.specs.Types.{kindOf}
 use Rattle.format.specs.Values.{whole, bare, Inner, each}
 use Rattle.format.specs.Values.{Form as Forms}
 use Rattle.decide.specs.declared.Form.{Form}
-use Rattle.decide.specs.declared.Form.the-variants.{Whole, Named, Bare}
+use Rattle.decide.specs.declared.Form.the-variants.{Whole, Named, Bare, Sized, Packed}
 use Rattle.decide.specs.declared.Typed.the-variants.{Standing, Untyped}
 use Rattle.decide.specs.Classes.{elementary}
-use Rattle.decide.specs.Forms.{ownOf, IdentifierIs, BareIs, TypedIs, TypedAt}
+use Rattle.decide.specs.Forms.{Says, known, says, ownBy, ownOf, IdentifierIs, BareIs, TypedBy, TypedAt}
 use Rattle.measure.specs.Plans.{onceOf, Means, Stands, judged}
 
 -- a value in a form f at a place, whose data are read from another place on: the type is judged there, and lies before its data or is an element type
@@ -59,27 +59,29 @@ bare-headed {o} {at} {from} {s} {t} h i k = rw (i .0, i .1) record {
   judges = λ inner e. sym (unjudged inner t 0 at (stand o at e) k);
 }
 
+bare-once : (w : Form) (t : ℤ) → says w ≡ known t → onceOf w ≡ false
+bare-once Whole t e = refl
+bare-once Named t e = let z : _≡_ {A = ℕ} 0 1 = cc in absurd (omega arith)
+bare-once (Bare a) t e = refl
+bare-once (Sized n a) t e = refl
+bare-once (Packed b a) t e = refl
+
 pub headed : {o : List ℕ} {w : Form} {at from : ℕ} {t : ℤ} → at ≤ length o → TypedAt o w at (Standing from t) → (f : Forms) → Stands w f → Headed o f at from (ownOf w) t (onceOf w)
-headed {o} {w} {at} {from} {t} h typed f s = by w f (s .means) (typed .is)
+headed {o} {w} {at} {from} {t} h typed f s = by f (s .means)
   where
-    by : (w : Form) (f : Forms) → Means w f → TypedIs o w at (Standing from t) → Headed o f at from (ownOf w) t (onceOf w)
-    by Whole (whole once) m i = rw m (whole-headed false i)
-    by Named (whole once) m i = rw m (whole-headed true i)
-    by (Bare a) (whole once) m i = absurd m
-    by Whole (bare u) m i = absurd m
-    by Named (bare u) m i = absurd m
-    by (Bare a) (bare u) m i = rw (← m .0) (bare-headed h i (ap elementary (m .0) ∙ m .1))
+    typed-by : {y : Says} → says w ≡ y → TypedBy o y at (Standing from t)
+    typed-by e = subst (λ (y : Says). TypedBy o y at (Standing from t)) e (typed .is)
+
+    by : (f : Forms) → Means w f → Headed o f at from (ownBy (says w)) t (onceOf w)
+    by (whole once) m = rw (m .0, m .1) (whole-headed once (typed-by (m .0)))
+    by (bare u) m = rw (m .0, bare-once w u (m .0)) (bare-headed h (typed-by (m .0)) (m .1))
 
 pub odd : {o : List ℕ} {w : Form} {at : ℕ} {r : Refusal} → TypedAt o w at (Untyped r) → (f : Forms) → Stands w f → (inner : Inner) (e : Env) → each inner f (stand o at e) ≡ stop r
-odd {o} {w} {at} {r} typed f s inner e = by w f (s .means) (typed .is)
+odd {o} {w} {at} {r} typed f s inner e = by f (s .means)
   where
-    read : (once : Bool) → IdentifierIs o at (Untyped r) → each inner (whole once) (stand o at e) ≡ stop r
-    read once i = by-identifier once o at inner e ∙ ap (λ (y : Out ℤ). follow y (λ t. judged inner once t 1 at)) (i e)
+    typed-by : {y : Says} → says w ≡ y → TypedBy o y at (Untyped r)
+    typed-by q = subst (λ (y : Says). TypedBy o y at (Untyped r)) q (typed .is)
 
-    by : (w : Form) (f : Forms) → Means w f → TypedIs o w at (Untyped r) → each inner f (stand o at e) ≡ stop r
-    by Whole (whole once) m i = read once i
-    by Named (whole once) m i = read once i
-    by (Bare a) (whole once) m i = absurd m
-    by Whole (bare u) m i = absurd m
-    by Named (bare u) m i = absurd m
-    by (Bare a) (bare u) m i = absurd i
+    by : (f : Forms) → Means w f → each inner f (stand o at e) ≡ stop r
+    by (whole once) m = by-identifier once o at inner e ∙ ap (λ (y : Out ℤ). follow y (λ t. judged inner once t 1 at)) (typed-by (m .0) e)
+    by (bare u) m = absurd (typed-by (m .0))

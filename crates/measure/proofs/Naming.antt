@@ -76,8 +76,8 @@ module _ (o l : List ℕ) (at p : ℕ) where
       plan = λ t own i. record {
         form-is = whole true;
         other-is = whole true;
-        form-stands = record { means = refl };
-        other-stands = record { means = refl };
+        form-stands = record { means = (refl, refl); sound = tt };
+        other-stands = record { means = (refl, refl); sound = tt };
         one-form = tt;
         few = omega arith;
         further = omega (arith, q .0);
@@ -103,7 +103,7 @@ module _ (o l : List ℕ) (at p : ℕ) where
     unfolding asks allow _>>=_ names stand envOf
     aims n next b e = rw e
 
-    pub reference-aimed : {next n : ℕ} → a ≡ Number next n → has n (listed l 64 (ended l)) ≡ true → DataPlan o l Reference once at p (Single next 0)
+    pub reference-aimed : {next n : ℕ} → a ≡ Number next n → has n (listed l 64 (ended l)) ≡ true → DataPlan o l Reference once at p (Single next 1)
     unfolding _>>=_ require return
     reference-aimed {next} {n} e f = let q = subst (pastAmount o at) e (h .past) in
         record { plan = λ t own i. (omega (arith, q .0), q .1, omega arith, λ lv. by-reference t own lv i ∙ rw e (aims n next true f)) }

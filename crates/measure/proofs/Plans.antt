@@ -93,7 +93,7 @@ module _ {o l : List ℕ} {once : Bool} {at p : ℕ} where
   pub uncarried-plan : DataPlan o l Uncarried once at p (Refuse (refusal 4 p))
   uncarried-plan = record { plan = λ t own i lv. judged-uncarried (dataOf (suc lv)) once t own p (stand o at (envOf l)) i }
 
-  pub small-plan : at ≤ length o → DataPlan o l Small once at p (Single at 0)
+  pub small-plan : at ≤ length o → DataPlan o l Small once at p (Single at 1)
   unfolding number _>>=_ return
   small-plan h = record {
     plan = λ t own i. (

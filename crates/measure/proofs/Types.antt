@@ -22,6 +22,7 @@ use Rattle.decide.specs.declared.Nest.{Nest}
 use Rattle.decide.specs.Classes.{holdsOf}
 use Rattle.decide.specs.Elements.{amountOut, pastAmount, AmountAt, Elementary, TypeIs, TypeAt}
 use Rattle.decide.specs.Forms.{formOf, nestIn}
+use Rattle.decide.proofs.Plain.{bare-says, bare-sound}
 use Rattle.measure.specs.declared.Plan.the-variants.{Refuse, Inner as Nested}
 use Rattle.measure.specs.Identities.{envOf, Ids}
 use Rattle.measure.specs.Tally.{plus, valueRows, childRows, opening, inside, rest}
@@ -40,8 +41,8 @@ inside-silent inner n r rows s = by (plus rows (childRows inner r) s)
 
 -- the form of values of an element type, where the container has one
 stands-formed : (on : Bool) (t : ℤ) → Elementary on t → Stands (formOf on t) (formed on t)
-stands-formed true t e = record { means = (refl, e) }
-stands-formed false t e = record { means = refl }
+stands-formed true t e = record { means = (bare-says t, e); sound = bare-sound t }
+stands-formed false t e = record { means = (refl, refl); sound = tt }
 
 module _ (o l : List ℕ) (at t-own from n : ℕ) (t a b : ℤ) (f g : Bool) (rows : ℕ → Out ℕ)
     (a-good : Elementary f a) (b-good : Elementary g b) (good : Ids l) (further : at ≤ from) (within : from ≤ length o) (small : n < 2 ^ 31) where
@@ -89,8 +90,8 @@ module _ (o l : List ℕ) (at t-own from n : ℕ) (t a b : ℤ) (f g : Bool) (ro
   nest-is User h = record {
     form-is = whole false;
     other-is = whole false;
-    form-stands = record { means = refl };
-    other-stands = record { means = refl };
+    form-stands = record { means = (refl, refl); sound = tt };
+    other-stands = record { means = (refl, refl); sound = tt };
     one-form = refl;
     few = omega arith;
     further = further;

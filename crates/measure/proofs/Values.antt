@@ -3,14 +3,10 @@ use mathlib.Core.Path.{_≡_, refl, sym, ap, subst, _∙_}
 use mathlib.Core.Bool.{Bool, true}
 use mathlib.Core.List.{List}
 use mathlib.Core.Logic.{_⊎_, inl, inr}
-use Prim.Native.Nat.{ℕ, suc, _+_, _^_, _<_, _≤_}
+use Prim.Native.Nat.{ℕ, suc, _+_, _<_, _≤_}
 use native.Mathlib.Omega.{arith}
 use lib.ListN.{length}
 use lib.IntN.{ℤ}
-use lib.Signed.{mag}
-use mir.Syntax.{w32}
-use mir.Val.{toZ, ofZ}
-use Rattle.integer.proofs.Signs.{held}
 use Rattle.reading.specs.declared.Refusal.{Refusal}
 use Rattle.reading.specs.Reading.{State, Out, got, stop, Reader, stand, follow, _>>=_, return}
 use Rattle.format.specs.Types.{Parts}
@@ -24,11 +20,11 @@ use Rattle.scalar.specs.Answers.{momentOut, momentPast, Passing}
 use Rattle.scalar.specs.Moments.{partsOf, countOf}
 use Rattle.decide.specs.declared.Class.{Class}
 use Rattle.decide.specs.declared.Class.the-variants.{Parts as Parted}
-use Rattle.decide.specs.Classes.{leastOf, elementary, ClassOf}
+use Rattle.decide.specs.Classes.{leastOf, elementary}
 use Rattle.decide.specs.declared.Form.{Form}
-use Rattle.decide.specs.declared.Typed.{Typed}
-use Rattle.decide.specs.declared.Typed.the-variants.{Standing, Untyped}
-use Rattle.decide.specs.Forms.{ownOf, TypedAt}
+use Rattle.decide.specs.declared.Classed.{Classed}
+use Rattle.decide.specs.declared.Classed.the-variants.{Data, Unclassed}
+use Rattle.decide.specs.Forms.{ownOf, HasClass, ClassIs, ClassAt}
 use Rattle.measure.specs.declared.Plan.{Plan}
 use Rattle.measure.specs.declared.Plan.the-variants.{Refuse, Single, Inner as Nested}
 use Rattle.measure.specs.Identities.{envOf}
@@ -60,7 +56,7 @@ moment-plan {o} {l} {once} {at} {p} {d} {m} h e = rw e record {
 }
   where
     by : {rows : ℕ → Out ℕ} (m : Moment) → momentPast o at 10 m → ((lv : ℕ) → rows lv ≡ follow (momentOut o (envOf l) m) (λ n. return (1 + n))) → PlanIs o l (at + 1) rows (momentPlan m)
-    by (Counted next n) q k = (omega (arith, q .0), q .1, q .2, λ lv. k lv ∙ ap (λ (m : ℕ). got m (stand o next (envOf l))) (omega arith))
+    by (Counted next n) q k = (omega (arith, q .0), q .1, omega (arith, q .2), λ lv. k lv ∙ ap (λ (m : ℕ). got m (stand o next (envOf l))) (omega arith))
     by (Unfit r) q k = k
 
 -- ---- a class, and a plan, said another way
@@ -86,21 +82,25 @@ plan-as o l a b rows more (Nested n) h e p = record {
 
 -- ---- the value
 
-pub value-odd : {o l : List ℕ} {w : Form} {at : ℕ} {x : Typed} {r : Refusal} → TypedAt o w at x → x ≡ Untyped r → ValuePlan o l w at (Refuse r)
+pub value-odd : {o l : List ℕ} {w : Form} {at : ℕ} {x : Classed} {r : Refusal} → ClassAt o w at x → x ≡ Unclassed r → ValuePlan o l w at (Refuse r)
 unfolding valueRows _>>=_
-value-odd {o} {l} {w} {at} h e = record { plan = λ f s lv. ap (λ (y : Out Value). follow y (λ v. return (suc (count (v .inside))))) (odd (subst (TypedAt o w at) e h) f s (dataOf (suc lv)) (envOf l)) }
+value-odd {o} {l} {w} {at} h e = record { plan = λ f s lv. ap (λ (y : Out Value). follow y (λ v. return (suc (count (v .inside))))) (odd (subst (ClassIs o w at) e (h .is)) f s (dataOf (suc lv)) (envOf l)) }
 
 -- an octet at least lies before the end of the data
-starts-before : {at from : ℕ} {t : ℤ} {c : Class} → ClassOf t c → at ≤ from → (at < from) ⊎ (elementary t ≡ true) → at + 1 ≤ from + leastOf c
+starts-before : {at from : ℕ} {t : ℤ} {c : Class} → HasClass t c → at ≤ from → (at < from) ⊎ (elementary t ≡ true) → at + 1 ≤ from + leastOf c
 starts-before k h (inl p) = omega arith
-starts-before k h (inr e) = omega (arith, k .least (k .element ∙ e))
+starts-before k h (inr e) = omega (arith, k .least e)
 
-pub value-typed : {o l : List ℕ} {w : Form} {at from : ℕ} {z : ℤ} {c : Class} {once : Bool} {x : Typed} {r : Plan} → at ≤ length o → TypedAt o w at x → x ≡ Standing from z → mag z < 2 ^ 31
-    → ClassOf (toZ w32 (ofZ w32 z)) c → once ≡ onceOf w → DataPlan o l c once from at r → ValuePlan o l w at r
+pub class-past : {o : List ℕ} {w : Form} {at from : ℕ} {x : Classed} {c : Class} → ClassAt o w at x → x ≡ Data from c → from ≤ length o
+class-past {o} {w} {at} h e = subst (ClassIs o w at) e (h .is) .1 .past .1
+
+pub value-classed : {o l : List ℕ} {w : Form} {at from : ℕ} {c : Class} {once : Bool} {x : Classed} {r : Plan} → at ≤ length o → ClassAt o w at x → x ≡ Data from c
+    → once ≡ onceOf w → DataPlan o l c once from at r → ValuePlan o l w at r
 unfolding valueRows _>>=_
-value-typed {o} {l} {w} {at} {from} {z} {c} {once} {r = r} h typed e g k u d = record {
+value-classed {o} {l} {w} {at} {from} {c} {once} {r = r} h found e u d = record {
   plan = λ f s.
-      let q = headed h (subst (TypedAt o w at) e typed) f s in
-      let j : ClassOf z c = subst (λ (t : ℤ). ClassOf t c) (held (record { sfits = g })) k in
-      plan-as o l (at + 1) (from + leastOf c) _ _ r (starts-before j (q .further) (q .later)) (λ lv. ap (λ (y : Out Value). follow y (λ v. return (suc (count (v .inside))))) (q .judges (dataOf (suc lv)) (envOf l))) (subst (λ (b : Bool). DataPlan o l c b from at r) u d .plan z (ownOf w) (j .is));
+      let k = subst (ClassIs o w at) e (found .is) in
+      let q = headed h (k .1) f s in
+      let j : HasClass (k .0) c = k .2 (s .sound) in
+      plan-as o l (at + 1) (from + leastOf c) _ _ r (starts-before j (q .further) (q .later)) (λ lv. ap (λ (y : Out Value). follow y (λ v. return (suc (count (v .inside))))) (q .judges (dataOf (suc lv)) (envOf l))) (subst (λ (b : Bool). DataPlan o l c b from at r) u d .plan (k .0) (ownOf w) (j .is));
 }

@@ -17,9 +17,10 @@ use Rattle.decide.specs.declared.Class.{Class}
 use Rattle.decide.specs.declared.Class.the-variants.{Holder, Reference, Text as Texted}
 use Rattle.decide.specs.declared.Shape.{Shape}
 use Rattle.decide.specs.declared.Form.{Form}
-use Rattle.decide.specs.declared.Form.the-variants.{Whole, Named, Bare}
+use Rattle.decide.specs.declared.Form.the-variants.{Whole, Named, Bare, Sized, Packed}
 use Rattle.decide.specs.declared.Nest.{Nest}
 use Rattle.decide.specs.Classes.{Is, leastOf, elementary}
+use Rattle.decide.specs.Forms.{unknown, known, says, Sound}
 use Rattle.measure.specs.declared.Contents.{Contents}
 use Rattle.measure.specs.declared.Plan.{Plan}
 use Rattle.measure.specs.declared.Plan.the-variants.{Refuse, Single, Inner as Nested}
@@ -31,18 +32,17 @@ abbrev pub onceOf : Form → Bool
 onceOf Whole = false
 onceOf Named = true
 onceOf (Bare t) = false
+onceOf (Sized n t) = false
+onceOf (Packed b t) = false
 
 -- how a value stands, for the code and for the format: a bare value has a type that element types may have
 abbrev pub Means : Form → Forms → Type 0
-Means Whole (whole once) = once ≡ false
-Means Named (whole once) = once ≡ true
-Means (Bare a) (whole once) = ⊥
-Means Whole (bare t) = ⊥
-Means Named (bare t) = ⊥
-Means (Bare a) (bare t) = (a ≡ t) × (elementary t ≡ true)
+Means w (whole once) = (says w ≡ unknown) × (onceOf w ≡ once)
+Means w (bare t) = (says w ≡ known t) × (elementary t ≡ true)
 
 pub record Stands (w : Form) (f : Forms) : Type 0 where
   pub means : Means w f
+  pub sound : Sound w
 
 -- a value of a type that was read at p: what is still asked of the type, and its data
 unfoldable pub judged : Inner → Bool → ℤ → ℕ → ℕ → Reader Value
@@ -72,21 +72,21 @@ pub record NestIs (o : List ℕ) (l : List ℕ) (at : ℕ) (n : Contents) (rows 
 -- what is planned for a value, whose rows with lv levels inside are counted by `rows lv`
 abbrev pub PlanIs : List ℕ → List ℕ → ℕ → (ℕ → Out ℕ) → Plan → Type 0
 PlanIs o l at rows (Refuse r) = (lv : ℕ) → rows lv ≡ stop r
-PlanIs o l at rows (Single next parts) = (at ≤ next) × (next ≤ length o) × (parts ≤ 10) × ((lv : ℕ) → rows lv ≡ got (suc parts) (stand o next (envOf l)))
+PlanIs o l at rows (Single next n) = (at ≤ next) × (next ≤ length o) × (n ≤ 11) × ((lv : ℕ) → rows lv ≡ got n (stand o next (envOf l)))
 PlanIs o l at rows (Nested n) = NestIs o l at n rows
 
 -- scalars that were passed
 abbrev pub planOf : Passed → Plan
-planOf (Past next) = Single next 0
+planOf (Past next) = Single next 1
 planOf (Refused r) = Refuse r
 
--- parts that an octet counts
+-- parts that an octet counts, and one more
 abbrev pub FewParts : Moment → Type 0
-FewParts (Counted next n) = n < 256
+FewParts (Counted next n) = n < 255
 FewParts (Unfit r) = Unit {0}
 
 abbrev pub momentPlan : Moment → Plan
-momentPlan (Counted next n) = Single next n
+momentPlan (Counted next n) = Single next (n + 1)
 momentPlan (Unfit r) = Refuse r
 
 -- a container without an identity, and an identity's value

@@ -10,6 +10,7 @@ ghost use Rattle.measure.specs.Entries.{FirstAt, Outermost, answerOf, ro
 ghost use Rattle.format.specs.Message.{measure as lengthOf};
 use decide::Amount;
 use decide::Class;
+use decide::Classed;
 use decide::Element;
 use decide::Form;
 use decide::Nest;
@@ -29,7 +30,7 @@ pub struct Contents {
     pub named: bool,
 }
 
-// What is found of a value: a refusal; the place past it and its parts, at most 10; or a container. The parts are counted in an octet, as wide as a
+// What is found of a value: a refusal; the place past it and its rows, at most 11; or a container. The rows are counted in an octet, as wide as a
 // refusal's number: one layout for both.
 pub enum Plan {
     Refuse(Refusal),
@@ -85,7 +86,7 @@ fn passed(answer: Passed) -> Plan
     ensures { λ r. ⌜ r ≡ planOf answer ⌝ }
 {
     match answer {
-        Passed::Past(next) => Plan::Single(next, 0),
+        Passed::Past(next) => Plan::Single(next, 1),
         Passed::Refused(r) => Plan::Refuse(r),
     }
 }
@@ -95,7 +96,7 @@ fn timed(answer: Moment) -> Plan
     ensures { λ r. ⌜ r ≡ momentPlan answer ⌝ }
 {
     match answer {
-        Moment::Parts(next, n) => Plan::Single(next, n as u8),
+        Moment::Parts(next, n) => Plan::Single(next, n as u8 + 1),
         Moment::Unfit(r) => Plan::Refuse(r),
     }
 }
@@ -180,7 +181,7 @@ fn reference_plan(src: &[u8], ids: &[u32], at: usize) -> Plan
         Amount::Number(next, n) => {
             let k = ids[129] as usize;
             if known(ids, 64, k, n) {
-                return Plan::Single(next, 0);
+                return Plan::Single(next, 1);
             }
             Plan::Refuse(Refusal {
                 place: at,
@@ -200,7 +201,7 @@ fn data_plan(src: &[u8], ids: &[u32], class: Class, once: bool, at: usize, start
             place: start,
             number: 4,
         }),
-        Class::Small => Plan::Single(at, 0),
+        Class::Small => Plan::Single(at, 1),
         Class::Int(bits) => passed(scalar::int_past(src, at, bits)),
         Class::Fixed(n) => passed(scalar::octets_past(src, at, n)),
         Class::Char => passed(scalar::char_past(src, at)),
@@ -220,6 +221,8 @@ fn once_of(form: Form) -> bool
         Form::Whole => false,
         Form::Named => true,
         Form::Bare(_) => false,
+        Form::Sized(_, _) => false,
+        Form::Packed(_, _) => false,
     }
 }
 
@@ -228,12 +231,9 @@ fn plan_at(src: &[u8], ids: &[u32], form: Form, at: usize) -> Plan
     requires { ⌜ (at ≤ length (now src)) × Ids (now ids) ⌝ }
     ensures { λ r. ⌜ ValuePlan (now (src .entry)) (now (ids .entry)) form at r ⌝ }
 {
-    match decide::typed_at(src, form, at) {
-        Typed::Untyped(r) => Plan::Refuse(r),
-        Typed::Standing(from, t) => {
-            let class = decide::class_of(t);
-            data_plan(src, ids, class, once_of(form), from, at)
-        }
+    match decide::class_at(src, form, at) {
+        Classed::Unclassed(r) => Plan::Refuse(r),
+        Classed::Data(from, class) => data_plan(src, ids, class, once_of(form), from, at),
     }
 }
 
@@ -291,7 +291,7 @@ fn value(src: &[u8], ids: &mut [u32], form: Form, at: usize, rows: usize, depth:
     }
     match plan_at(src, ids, form, at) {
         Plan::Refuse(r) => Step::Stop(r),
-        Plan::Single(next, parts) => Step::On(next, rows + 1 + parts as usize),
+        Plan::Single(next, n) => Step::On(next, rows + n as usize),
         Plan::Inner(contents) => elements(src, ids, contents, rows + 1, depth - 1),
     }
 }
@@ -320,14 +320,14 @@ fn elements(src: &[u8], ids: &mut [u32], contents: Contents, before: usize, dept
                 end_id(ids, named, id);
                 return Step::On(next, rows);
             }
-            Next::Value(next, label) => {
+            Next::Value(next, _, after) => {
                 let turn = decide::turn_of(form, other, low);
                 match value(src, ids, turn, next, rows, depth) {
                     Step::Stop(r) => return Step::Stop(r),
                     Step::On(there, rows2) => {
                         at = there;
                         rows = rows2;
-                        low = decide::low_after(indexed, label, low);
+                        low = after;
                     }
                 }
             }

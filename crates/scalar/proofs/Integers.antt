@@ -181,8 +181,10 @@ ends-pass w {o} {at} (suc i) room few end t =
 
 -- the same by eight octets at once
 pub word-passes : (w : Bits) (o : List ℕ) (at : ℕ) {e k : ℕ} {t : Bool} → at + 8 ≤ length o → ((i : ℕ) → getD o i 0 < 256) → e ≡ ends 8 (little 8 o at) → (e ≡ 0 → ⊥)
-    → k ≡ trailingZeros 64 e / 8 → t ≡ fitting w k (getD o (at + k) 0) → t ≡ true → Passes 1 o at (integer (widthOf w)) (Past (at + k + 1))
-word-passes w o at {e} {k} room small is ne first t on = ends-pass w k room (ends-few o at small refl is ne first) (ends-first o at small refl is ne first) (sym t ∙ on)
+    → k ≡ trailingZeros 64 e / 8 → t ≡ fitting w k (getD o (at + k) 0) → t ≡ true → Passes 1 o at (integer (widthOf w)) (Past (at + 1 + k))
+word-passes w o at {e} {k} room small is ne first t on =
+    let past : at + 1 + k ≡ at + k + 1 = omega arith in
+    rw past (ends-pass w k room (ends-few o at small refl is ne first) (ends-first o at small refl is ne first) (sym t ∙ on))
 
 -- ---- an integer of one or two octets
 

@@ -135,14 +135,15 @@ pub fn int_past(src: &[u8], at: usize, w: Bits) -> Passed
     }
     if 8 <= src.len() - at {
         let e = integer::ends_at(src, at);
+        let next = at + 1;
         // None of the eight octets is continued.
         if e == 0x8080808080808080 {
-            return Passed::Past(at + 1);
+            return Passed::Past(next);
         }
         if e != 0 {
             let k = integer::first_end(e);
             if fits_in(w, k, src[at + k]) {
-                return Passed::Past(at + k + 1);
+                return Passed::Past(next + k);
             }
         }
     }

@@ -40,6 +40,9 @@ out-of-bounds-requires-3 c κs = search needs
 returns-3 : tie.Need-returns-3
 returns-3 c = rw (c .out-of-bounds3 .ensures) (index-high (c .before .before .before .before .before .before .signed-at .ensures) (c .before .before .before .before .next2 .given .1) (c .before .before .if2 .left) (c .before .if3 .taken))
 
+add-t18 : tie.Need-add-t18
+add-t18 c = search needs
+
 returns-4 : tie.Need-returns-4
 returns-4 c = index-faulty (c .before .before .before .signed-at .ensures) (c .before .r .given .1)
 
@@ -64,6 +67,7 @@ index-next-spec =
     cast-if3
     out-of-bounds-requires-3
     returns-3
+    add-t18
     returns-4
     returns-5
     returns-6)

@@ -14,14 +14,17 @@ returns : tie.Need-returns
 returns c = next-index (c .before .if1 .taken) (c .index-next .ensures)
 
 returns-2 : tie.Need-returns-2
-returns-2 c = next-end (c .before .if1 .left) (c .before .before .before .pre) (c .if2 .taken)
+returns-2 c = next-end (c .before .if1 .left) (c .before .before .before .pre .0) (c .if2 .taken)
 
 label-of-requires : tie.Need-label-of-requires
 label-of-requires c κs = search needs
 
+add-t10 : tie.Need-add-t10
+add-t10 c = search needs
+
 returns-3 : tie.Need-returns-3
-returns-3 c = next-value (c .before .before .if1 .left) (c .before .before .before .before .pre) (c .before .if2 .left) (c .label-of .ensures)
+returns-3 c = next-value (c .before .before .if1 .left) (c .before .before .before .before .pre .0) (c .before .if2 .left) (c .label-of .ensures)
 
 pub next-at-spec : {M : Type 1} → statement M
 next-at-spec =
-    tie.close (tie.spec index-next-requires returns returns-2 label-of-requires returns-3)
+    tie.close (tie.spec index-next-requires returns returns-2 label-of-requires add-t10 returns-3)

@@ -5,7 +5,7 @@ use Rattle.columns.specs.Columns.{columns}
 use Rattle.columns.proofs.Columns.{roomy, leaf-room, leaf-in-blank}
 use Rattle.fill.proofs.Values.{value-crowded, value-unread, value-leaf, value-deep, value-holder}
 use Rattle.fill.proofs.Elements.{Turn, turn-first, turn-less, turn-again, elements-unread, elements-end, elements-stop}
-use Rattle.fill.proofs.Bounds.{leaf-end, rises, sinks, take-one, one-row, holder-ready, stored-as, turned, turn-ends, turn-ready, turn-low, turn-more}
+use Rattle.fill.proofs.Bounds.{leaf-end, rises, sinks, take-one, one-row, holder-ready, stored-as, turned, turn-ends, turn-ready, turn-more}
 use Prim.Native.Nat.{ℕ, _<_}
 use borrow.Fn.Kinds.{In}
 use borrow.Fn.PlainCycle.{Measures, is, falls, and}
@@ -15,7 +15,6 @@ use Rattle.fill.proofs.+fill_elements+fill_value.Lts-fill_elements as f
 use Rattle.fill.proofs.fill_value.Reads as fill-value
 use Rattle.fill.proofs.fill_value.Kinds as fill-value-kinds
 use Rattle.fill.proofs.+fill_elements+fill_value.Lts-fill_value as fill-value-lts
-use Rattle.decide.proofs.low_after.Reads as low-after-reads
 use Rattle.decide.proofs.next_at.Reads as next-at-reads
 use Rattle.decide.proofs.turn_of.Reads as turn-of-reads
 use Rattle.fill.proofs.closed_row.Reads as closed-row-reads
@@ -64,7 +63,7 @@ fill-elements-μ-loop src ty₀ own₀ label₀ number₀ first₀ second₀ pla
     count - low
 
 abbrev fill-elements-claims : ℕ → fill-elements-lts.Claims
-fill-elements-claims t = (next-at-reads.Asked, next-at-reads.Learnt, closed-row-reads.Asked, closed-row-reads.Learnt, put-row-reads.Asked, put-row-reads.Learnt, turn-of-reads.Asked, turn-of-reads.Learnt, fill-value-below t, fill-value.Post, low-after-reads.Asked, low-after-reads.Learnt)
+fill-elements-claims t = (next-at-reads.Asked, next-at-reads.Learnt, closed-row-reads.Asked, closed-row-reads.Learnt, put-row-reads.Asked, put-row-reads.Learnt, turn-of-reads.Asked, turn-of-reads.Learnt, fill-value-below t, fill-value.Post)
 
 abbrev fill-value-claims : ℕ → fill-value-lts.Claims
 fill-value-claims t = (row-at-reads.Asked, row-at-reads.Learnt, put-leaf-reads.Asked, put-leaf-reads.Learnt, fill-elements-below t, fill-elements.Post)
@@ -76,7 +75,7 @@ fill-elements-loop-holds : (t : ℕ) → fill-elements-lts.Need-loop-holds (fill
 fill-elements-loop-holds t c = turn-first (c .before .before .before .before .before .before .before .pre .1 .0)
 
 fill-elements-next-at-requires : (t : ℕ) → fill-elements-lts.Need-next-at-requires (fill-elements-claims t) (fill-elements-at t) fill-elements.Post fill-elements-Inv-loop fill-elements-μ-loop
-fill-elements-next-at-requires t c κs = c .loop .inv .inside
+fill-elements-next-at-requires t c κs = (c .loop .inv .inside, c .before .before .before .before .before .before .before .before .pre .1 .1)
 
 fill-elements-enum-told : (t : ℕ) → fill-elements-lts.Need-enum-told (fill-elements-claims t) (fill-elements-at t) fill-elements.Post fill-elements-Inv-loop fill-elements-μ-loop
 fill-elements-enum-told t c = c .match .keys1
@@ -207,14 +206,11 @@ fill-elements-returns-3 t c = elements-stop (c .before .before .before .before .
 fill-elements-enum-known-at2 : (t : ℕ) → fill-elements-lts.Need-enum-known-at2 (fill-elements-claims t) (fill-elements-at t) fill-elements.Post fill-elements-Inv-loop fill-elements-μ-loop
 fill-elements-enum-known-at2 t c = c .match2 .keys2
 
-fill-elements-low-after-requires : (t : ℕ) → fill-elements-lts.Need-low-after-requires (fill-elements-claims t) (fill-elements-at t) fill-elements.Post fill-elements-Inv-loop fill-elements-μ-loop
-fill-elements-low-after-requires t c κs = turn-low (c .before .before .before .before .before .before .before .before .before .before .before .before .before .before .before .before .before .before .before .before .before .before .before .before .before .before .before .before .before .before .before .before .before .before .before .loop .inv) (c .before .before .before .before .before .before .before .before .before .before .before .before .before .before .before .before .before .before .before .before .before .before .before .before .before .before .before .before .before .before .before .before .before .before .before .before .before .before .before .before .before .before .before .pre .1 .0) (c .before .before .before .before .before .before .before .before .before .before .before .before .before .before .before .before .before .before .before .before .before .before .before .before .before .before .before .before .before .before .before .before .before .before .next-at .ensures) (c .before .before .before .before .before .before .before .before .before .before .before .before .before .before .before .before .before .before .before .before .before .before .before .before .before .before .before .before .before .before .before .before .next2 .given .1) (c .before .before .before .before .before .before .before .before .before .before .before .before .before .before .before .before .before .before .before .before .before .before .before .before .before .before .before .before .before .before .before .before .before .before .before .before .before .before .before .before .before .before .before .pre .1 .1)
-
 fill-elements-loop-less : (t : ℕ) → fill-elements-lts.Need-loop-less (fill-elements-claims t) (fill-elements-at t) fill-elements.Post fill-elements-Inv-loop fill-elements-μ-loop
-fill-elements-loop-less t c = turn-less (c .before .before .before .before .before .before .before .before .before .before .before .before .before .before .before .before .before .before .before .before .before .before .before .before .before .before .before .before .before .before .before .before .before .before .before .before .loop .inv) (c .before .before .before .before .before .before .before .before .before .before .before .before .before .before .before .before .before .before .before .before .before .before .before .before .before .before .before .before .before .before .before .before .before .before .before .next-at .ensures) (c .before .before .before .before .before .before .before .before .before .before .before .before .before .before .before .before .before .before .before .before .before .before .before .before .before .before .before .before .before .before .before .before .before .next2 .given .1) (turned (c .before .before .before .before .before .before .before .before .before .before .before .before .before .before .before .before .before .before .before .before .before .turn-of .ensures) (c .before .before .before .before .before .before .before .before .before .before .before .before .before .before .before .before .before .before .before .before .fill-value .ensures)) (c .low-after .ensures)
+fill-elements-loop-less t c = turn-less (c .before .before .before .before .before .before .before .before .before .before .before .before .before .before .before .before .before .before .before .before .before .before .before .before .before .before .before .before .before .before .before .before .before .before .before .loop .inv) (c .before .before .before .before .before .before .before .before .before .before .before .before .before .before .before .before .before .before .before .before .before .before .before .before .before .before .before .before .before .before .before .before .before .before .next-at .ensures) (c .before .before .before .before .before .before .before .before .before .before .before .before .before .before .before .before .before .before .before .before .before .before .before .before .before .before .before .before .before .before .before .before .next2 .given .1) (turned (c .before .before .before .before .before .before .before .before .before .before .before .before .before .before .before .before .before .before .before .before .turn-of .ensures) (c .before .before .before .before .before .before .before .before .before .before .before .before .before .before .before .before .before .before .before .fill-value .ensures))
 
 fill-elements-loop-again : (t : ℕ) → fill-elements-lts.Need-loop-again (fill-elements-claims t) (fill-elements-at t) fill-elements.Post fill-elements-Inv-loop fill-elements-μ-loop
-fill-elements-loop-again t c = turn-again (c .before .before .before .before .before .before .before .before .before .before .before .before .before .before .before .before .before .before .before .before .before .before .before .before .before .before .before .before .before .before .before .before .before .before .before .before .loop .inv) (c .before .before .before .before .before .before .before .before .before .before .before .before .before .before .before .before .before .before .before .before .before .before .before .before .before .before .before .before .before .before .before .before .before .before .before .next-at .ensures) (c .before .before .before .before .before .before .before .before .before .before .before .before .before .before .before .before .before .before .before .before .before .before .before .before .before .before .before .before .before .before .before .before .before .next2 .given .1) (turned (c .before .before .before .before .before .before .before .before .before .before .before .before .before .before .before .before .before .before .before .before .before .turn-of .ensures) (c .before .before .before .before .before .before .before .before .before .before .before .before .before .before .before .before .before .before .before .before .fill-value .ensures)) (c .before .before .at2 .given .1) (c .low-after .ensures) (record { ty-kept = c .before .before .before .before .before .before .before .before .before .before .before .before .before .before .before .before .before .before .before .before .fill-value .kept .1 .0; own-kept = c .before .before .before .before .before .before .before .before .before .before .before .before .before .before .before .before .before .before .before .before .fill-value .kept .1 .1 .0; label-kept = c .before .before .before .before .before .before .before .before .before .before .before .before .before .before .before .before .before .before .before .before .fill-value .kept .1 .1 .1 .0; number-kept = c .before .before .before .before .before .before .before .before .before .before .before .before .before .before .before .before .before .before .before .before .fill-value .kept .1 .1 .1 .1 .0; first-kept = c .before .before .before .before .before .before .before .before .before .before .before .before .before .before .before .before .before .before .before .before .fill-value .kept .1 .1 .1 .1 .1 .0; second-kept = c .before .before .before .before .before .before .before .before .before .before .before .before .before .before .before .before .before .before .before .before .fill-value .kept .1 .1 .1 .1 .1 .1 .0; place-kept = c .before .before .before .before .before .before .before .before .before .before .before .before .before .before .before .before .before .before .before .before .fill-value .kept .1 .1 .1 .1 .1 .1 .1 .0; below-kept = c .before .before .before .before .before .before .before .before .before .before .before .before .before .before .before .before .before .before .before .before .fill-value .kept .1 .1 .1 .1 .1 .1 .1 .1 .0; start-kept = c .before .before .before .before .before .before .before .before .before .before .before .before .before .before .before .before .before .before .before .before .fill-value .kept .1 .1 .1 .1 .1 .1 .1 .1 .1 .0; end-kept = c .before .before .before .before .before .before .before .before .before .before .before .before .before .before .before .before .before .before .before .before .fill-value .kept .1 .1 .1 .1 .1 .1 .1 .1 .1 .1 .0 })
+fill-elements-loop-again t c = turn-again (c .before .before .before .before .before .before .before .before .before .before .before .before .before .before .before .before .before .before .before .before .before .before .before .before .before .before .before .before .before .before .before .before .before .before .before .loop .inv) (c .before .before .before .before .before .before .before .before .before .before .before .before .before .before .before .before .before .before .before .before .before .before .before .before .before .before .before .before .before .before .before .before .before .before .next-at .ensures) (c .before .before .before .before .before .before .before .before .before .before .before .before .before .before .before .before .before .before .before .before .before .before .before .before .before .before .before .before .before .before .before .before .next2 .given .1) (turned (c .before .before .before .before .before .before .before .before .before .before .before .before .before .before .before .before .before .before .before .before .turn-of .ensures) (c .before .before .before .before .before .before .before .before .before .before .before .before .before .before .before .before .before .before .before .fill-value .ensures)) (c .before .at2 .given .1) (record { ty-kept = c .before .before .before .before .before .before .before .before .before .before .before .before .before .before .before .before .before .before .before .fill-value .kept .1 .0; own-kept = c .before .before .before .before .before .before .before .before .before .before .before .before .before .before .before .before .before .before .before .fill-value .kept .1 .1 .0; label-kept = c .before .before .before .before .before .before .before .before .before .before .before .before .before .before .before .before .before .before .before .fill-value .kept .1 .1 .1 .0; number-kept = c .before .before .before .before .before .before .before .before .before .before .before .before .before .before .before .before .before .before .before .fill-value .kept .1 .1 .1 .1 .0; first-kept = c .before .before .before .before .before .before .before .before .before .before .before .before .before .before .before .before .before .before .before .fill-value .kept .1 .1 .1 .1 .1 .0; second-kept = c .before .before .before .before .before .before .before .before .before .before .before .before .before .before .before .before .before .before .before .fill-value .kept .1 .1 .1 .1 .1 .1 .0; place-kept = c .before .before .before .before .before .before .before .before .before .before .before .before .before .before .before .before .before .before .before .fill-value .kept .1 .1 .1 .1 .1 .1 .1 .0; below-kept = c .before .before .before .before .before .before .before .before .before .before .before .before .before .before .before .before .before .before .before .fill-value .kept .1 .1 .1 .1 .1 .1 .1 .1 .0; start-kept = c .before .before .before .before .before .before .before .before .before .before .before .before .before .before .before .before .before .before .before .fill-value .kept .1 .1 .1 .1 .1 .1 .1 .1 .1 .0; end-kept = c .before .before .before .before .before .before .before .before .before .before .before .before .before .before .before .before .before .before .before .fill-value .kept .1 .1 .1 .1 .1 .1 .1 .1 .1 .1 .0 })
 
 fill-value-returns : (t : ℕ) → fill-value-lts.Need-returns (fill-value-claims t) (fill-value-at t) fill-value.Post
 fill-value-returns t c = value-crowded (c .if1 .taken)
@@ -363,7 +359,6 @@ pub +fill-elements+fill-value-spec : {M : Type 1} → statement M
     (fill-elements-same-length-30 t)
     (fill-elements-returns-3 t)
     (fill-elements-enum-known-at2 t)
-    (fill-elements-low-after-requires t)
     (fill-elements-loop-less t)
     (fill-elements-loop-again t))
     λ t. fill-value-lts.spec (fill-value-claims t) (fill-value-at t)

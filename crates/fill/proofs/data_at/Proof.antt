@@ -4,7 +4,7 @@ use Rattle.fill.proofs.data_at.Statement.{statement}
 use Rattle.fill.proofs.data_at.Tie as tie
 use Rattle.fill.proofs.data_at.Reads as reads
 use Rattle.fill.proofs.data_at.Lts as lts
-use Rattle.decide.proofs.class_of.Reads as class-of-reads
+use Rattle.decide.proofs.class_in.Reads as class-in-reads
 use Rattle.fill.proofs.amount_number.Reads as amount-number-reads
 use Rattle.fill.proofs.code_number.Reads as code-number-reads
 use Rattle.fill.proofs.fixed_number.Reads as fixed-number-reads
@@ -17,8 +17,8 @@ use Rattle.fill.proofs.number_data.Reads as number-data-reads
 use Rattle.fill.proofs.plain.Reads as plain-reads
 use Rattle.fill.proofs.text_data.Reads as text-data-reads
 
-class-of-requires : tie.Need-class-of-requires
-class-of-requires c κs = search needs
+class-in-requires : tie.Need-class-in-requires
+class-in-requires c κs = search needs
 
 enum-told : tie.Need-enum-told
 enum-told c = search needs
@@ -45,7 +45,7 @@ enum-known-n : tie.Need-enum-known-n
 enum-known-n c = search needs
 
 fixed-number-requires : tie.Need-fixed-number-requires
-fixed-number-requires c κs = (size-of (c .before .before .before .before .before .fits .ty) (c .before .before .before .class-of .ensures) (c .before .n .given .1), (c .before .before .before .before .before .pre))
+fixed-number-requires c κs = (size-of (c .before .before .before .before .before .fits .ty) (c .before .before .before .class-in .ensures) (c .before .n .given .1), (c .before .before .before .before .before .pre))
 
 number-data-requires-2 : tie.Need-number-data-requires-2
 number-data-requires-2 c κs = search needs
@@ -93,40 +93,40 @@ number-data-requires-4 : tie.Need-number-data-requires-4
 number-data-requires-4 c κs = search needs
 
 returns : tie.Need-returns
-returns c = refused-data (c .before .before .before .before .pre) (c .before .before .before .before .fits .ty) (c .before .before .class-of .ensures) (c .enum-told .given .1)
+returns c = refused-data (c .before .before .before .before .pre) (c .before .before .before .before .fits .ty) (c .before .before .class-in .ensures) (c .enum-told .given .1)
 
 returns-2 : tie.Need-returns-2
-returns-2 c = small-data (c .before .before .before .before .before .before .pre) (c .before .before .before .before .before .before .fits .ty) (c .before .before .before .before .class-of .ensures) (c .before .before .enum-told2 .given .1) (c .before .implied-number .ensures) (c .before .implied-number .ok) (c .plain .ensures)
+returns-2 c = small-data (c .before .before .before .before .before .before .pre) (c .before .before .before .before .before .before .fits .ty) (c .before .before .before .before .class-in .ensures) (c .before .before .enum-told2 .given .1) (c .before .implied-number .ensures) (c .before .implied-number .ok) (c .plain .ensures)
 
 returns-3 : tie.Need-returns-3
-returns-3 c = int-data (c .before .before .before .before .before .before .pre) (c .before .before .before .before .before .before .fits .ty) (c .before .before .before .before .class-of .ensures) (c .before .before .enum-told3 .given .1) (c .before .int-number .ensures) (c .number-data .ensures)
+returns-3 c = int-data (c .before .before .before .before .before .before .pre) (c .before .before .before .before .before .before .fits .ty) (c .before .before .before .before .class-in .ensures) (c .before .before .enum-told3 .given .1) (c .before .int-number .ensures) (c .number-data .ensures)
 
 returns-4 : tie.Need-returns-4
-returns-4 c = fixed-data (c .before .before .before .before .before .before .before .pre) (c .before .before .before .before .before .before .before .fits .ty) (c .before .before .before .before .before .class-of .ensures) (c .before .before .before .n .given .1) (c .before .fixed-number .ensures) (c .number-data2 .ensures)
+returns-4 c = fixed-data (c .before .before .before .before .before .before .before .pre) (c .before .before .before .before .before .before .before .fits .ty) (c .before .before .before .before .before .class-in .ensures) (c .before .before .before .n .given .1) (c .before .fixed-number .ensures) (c .number-data2 .ensures)
 
 returns-5 : tie.Need-returns-5
-returns-5 c = char-data (c .before .before .before .before .before .before .pre) (c .before .before .before .before .before .before .fits .ty) (c .before .before .before .before .class-of .ensures) (c .before .before .enum-told4 .given .1) (c .before .code-number .ensures) (c .number-data3 .ensures)
+returns-5 c = char-data (c .before .before .before .before .before .before .pre) (c .before .before .before .before .before .before .fits .ty) (c .before .before .before .before .class-in .ensures) (c .before .before .enum-told4 .given .1) (c .before .code-number .ensures) (c .number-data3 .ensures)
 
 returns-6 : tie.Need-returns-6
-returns-6 c = moment-data (c .before .before .before .before .before .before .pre) (c .before .before .before .before .before .before .fits .ty) (c .before .before .before .before .class-of .ensures) (c .before .before .which .given .1) (c .moment-data .ensures)
+returns-6 c = moment-data (c .before .before .before .before .before .before .pre) (c .before .before .before .before .before .before .fits .ty) (c .before .before .before .before .class-in .ensures) (c .before .before .which .given .1) (c .moment-data .ensures)
 
 returns-7 : tie.Need-returns-7
-returns-7 c = text-data (c .before .before .before .before .before .pre) (c .before .before .before .before .before .fits .ty) (c .before .before .before .class-of .ensures) (c .before .enum-told5 .given .1) (c .text-data .ensures)
+returns-7 c = text-data (c .before .before .before .before .before .pre) (c .before .before .before .before .before .fits .ty) (c .before .before .before .class-in .ensures) (c .before .enum-told5 .given .1) (c .text-data .ensures)
 
 returns-8 : tie.Need-returns-8
-returns-8 c = holder-data (c .before .before .before .before .before .before .pre) (c .before .before .before .before .before .before .fits .ty) (c .before .before .before .before .class-of .ensures) (c .before .before .shape .given .1) (c .holder-data .ensures)
+returns-8 c = holder-data (c .before .before .before .before .before .before .pre) (c .before .before .before .before .before .before .fits .ty) (c .before .before .before .before .class-in .ensures) (c .before .before .shape .given .1) (c .holder-data .ensures)
 
 returns-9 : tie.Need-returns-9
-returns-9 c = identity-data (c .before .before .before .before .before .pre) (c .before .before .before .before .before .fits .ty) (c .before .before .before .class-of .ensures) (c .before .enum-told6 .given .1) (c .identity-data .ensures)
+returns-9 c = identity-data (c .before .before .before .before .before .pre) (c .before .before .before .before .before .fits .ty) (c .before .before .before .class-in .ensures) (c .before .enum-told6 .given .1) (c .identity-data .ensures)
 
 returns-10 : tie.Need-returns-10
-returns-10 c = reference-data (c .before .before .before .before .before .before .pre) (c .before .before .before .before .before .before .fits .ty) (c .before .before .before .before .class-of .ensures) (c .before .before .enum-told7 .given .1) (c .before .amount-number .ensures) (c .number-data4 .ensures)
+returns-10 c = reference-data (c .before .before .before .before .before .before .pre) (c .before .before .before .before .before .before .fits .ty) (c .before .before .before .before .class-in .ensures) (c .before .before .enum-told7 .given .1) (c .before .amount-number .ensures) (c .number-data4 .ensures)
 
 pub data-at-spec : {M : Type 1} → statement M
 data-at-spec =
     tie.close
     (tie.spec
-    class-of-requires
+    class-in-requires
     enum-told
     enum-told-2
     implied-number-requires

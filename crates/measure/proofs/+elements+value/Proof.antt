@@ -1,7 +1,7 @@
 use borrow.Author.Needs.{needs}
 use mathlib.Core.Path.{refl, sym, _∙_}
 use Prim.Native.Nat.{_+_, _-_, _*_}
-use Rattle.measure.proofs.Cycle.{Turning, turning-first, turning-can-read, turning-again, turning-less, low-fits, held-halted, held-ended, held-stopped, can-end, value-deep, value-refused, value-single, value-nested, value-can-hold, rises, sinks, some-level, rows-fit, parts-fit}
+use Rattle.measure.proofs.Cycle.{Turning, turning-first, turning-can-read, turning-again, turning-less, held-halted, held-ended, held-stopped, can-end, value-deep, value-refused, value-single, value-nested, value-can-hold, rises, sinks, some-level, rows-fit, single-fits}
 use Prim.Native.Nat.{ℕ, _<_}
 use borrow.Fn.Kinds.{In}
 use borrow.Fn.PlainCycle.{Measures, is, falls, and}
@@ -11,7 +11,6 @@ use Rattle.measure.proofs.+elements+value.Lts-elements as elements-lts
 use Rattle.measure.proofs.value.Reads as value
 use Rattle.measure.proofs.value.Kinds as value-kinds
 use Rattle.measure.proofs.+elements+value.Lts-value as value-lts
-use Rattle.decide.proofs.low_after.Reads as low-after-reads
 use Rattle.decide.proofs.next_at.Reads as next-at-reads
 use Rattle.decide.proofs.turn_of.Reads as turn-of-reads
 use Rattle.measure.proofs.end_id.Reads as end-id-reads
@@ -41,7 +40,7 @@ abbrev value-below : ℕ → In 2 value-kinds.ps
 value-below t = and 2 value-kinds.ps (falls 2 value-kinds.ps _<_ μ-value t) value.Pre
 
 abbrev elements-claims : ℕ → elements-lts.Claims
-elements-claims t = (open-id-reads.Asked, open-id-reads.Learnt, next-at-reads.Asked, next-at-reads.Learnt, end-id-reads.Asked, end-id-reads.Learnt, turn-of-reads.Asked, turn-of-reads.Learnt, value-below t, value.Post, low-after-reads.Asked, low-after-reads.Learnt)
+elements-claims t = (open-id-reads.Asked, open-id-reads.Learnt, next-at-reads.Asked, next-at-reads.Learnt, end-id-reads.Asked, end-id-reads.Learnt, turn-of-reads.Asked, turn-of-reads.Learnt, value-below t, value.Post)
 
 abbrev value-claims : ℕ → value-lts.Claims
 value-claims t = (too-deep-reads.Asked, too-deep-reads.Learnt, plan-at-reads.Asked, plan-at-reads.Learnt, elements-below t, elements.Post)
@@ -59,7 +58,7 @@ elements-loop-holds : (t : ℕ) → elements-lts.Need-loop-holds (elements-claim
 elements-loop-holds t c = turning-first (c .before .before .before .before .before .before .before .pre .1) (c .before .before .open-id .ensures)
 
 elements-next-at-requires : (t : ℕ) → elements-lts.Need-next-at-requires (elements-claims t) (elements-at t) elements.Post elements-Inv-loop elements-μ-loop
-elements-next-at-requires t c κs = c .loop .inv .within
+elements-next-at-requires t c κs = (c .loop .inv .within, c .loop .inv .small)
 
 elements-enum-known-r : (t : ℕ) → elements-lts.Need-enum-known-r (elements-claims t) (elements-at t) elements.Post elements-Inv-loop elements-μ-loop
 elements-enum-known-r t c = c .match .keys1
@@ -103,14 +102,11 @@ elements-returns-3 t c = held-stopped _ (c .before .before .before .before .befo
 elements-enum-known-there : (t : ℕ) → elements-lts.Need-enum-known-there (elements-claims t) (elements-at t) elements.Post elements-Inv-loop elements-μ-loop
 elements-enum-known-there t c = c .match2 .keys2
 
-elements-low-after-requires : (t : ℕ) → elements-lts.Need-low-after-requires (elements-claims t) (elements-at t) elements.Post elements-Inv-loop elements-μ-loop
-elements-low-after-requires t c κs = low-fits (c .before .before .before .before .before .before .before .before .before .before .before .before .loop .inv) (c .before .before .before .before .before .before .before .before .before .before .before .next-at .ensures) (c .before .before .before .before .before .before .before .before .before .next2 .given .1)
-
 elements-loop-less : (t : ℕ) → elements-lts.Need-loop-less (elements-claims t) (elements-at t) elements.Post elements-Inv-loop elements-μ-loop
-elements-loop-less t c = turning-less (c .before .before .before .before .before .before .before .before .before .before .before .before .before .loop .inv) (c .before .before .before .before .before .before .before .before .before .before .before .before .next-at .ensures) (c .before .before .before .before .before .before .before .before .before .before .next2 .given .1) (c .low-after .ensures)
+elements-loop-less t c = turning-less (c .before .before .before .before .before .before .before .before .before .before .before .before .loop .inv) (c .before .before .before .before .before .before .before .before .before .before .before .next-at .ensures) (c .before .before .before .before .before .before .before .before .before .next2 .given .1)
 
 elements-loop-again : (t : ℕ) → elements-lts.Need-loop-again (elements-claims t) (elements-at t) elements.Post elements-Inv-loop elements-μ-loop
-elements-loop-again t c = turning-again (c .before .before .before .before .before .before .before .before .before .before .before .before .before .loop .inv) (c .before .before .before .before .before .before .before .before .before .before .before .before .next-at .ensures) (c .before .before .before .before .before .before .before .before .before .before .next2 .given .1) (c .before .before .before .before .before .before .before .before .turn-of .ensures) (c .before .before .before .before .before .before .value .ensures) (c .before .before .there .given .1) (c .low-after .ensures)
+elements-loop-again t c = turning-again (c .before .before .before .before .before .before .before .before .before .before .before .before .loop .inv) (c .before .before .before .before .before .before .before .before .before .before .before .next-at .ensures) (c .before .before .before .before .before .before .before .before .before .next2 .given .1) (c .before .before .before .before .before .before .before .turn-of .ensures) (c .before .before .before .before .before .value .ensures) (c .before .there .given .1)
 
 value-too-deep-requires : (t : ℕ) → value-lts.Need-too-deep-requires (value-claims t) (value-at t) value.Post
 value-too-deep-requires t c κs = c .before .before .before .pre .1 .within
@@ -127,14 +123,11 @@ value-enum-known-r t c = c .match .keys1
 value-enum-known-next : (t : ℕ) → value-lts.Need-enum-known-next (value-claims t) (value-at t) value.Post
 value-enum-known-next t c = c .match .keys2
 
-value-add-t17 : (t : ℕ) → value-lts.Need-add-t17 (value-claims t) (value-at t) value.Post
-value-add-t17 t c = record { fits = rows-fit (c .before .before .before .before .before .before .before .before .pre .1) }
+value-cast-t17 : (t : ℕ) → value-lts.Need-cast-t17 (value-claims t) (value-at t) value.Post
+value-cast-t17 t c = search needs
 
-value-cast-t18 : (t : ℕ) → value-lts.Need-cast-t18 (value-claims t) (value-at t) value.Post
-value-cast-t18 t c = search needs
-
-value-add-t19 : (t : ℕ) → value-lts.Need-add-t19 (value-claims t) (value-at t) value.Post
-value-add-t19 t c = record { fits = parts-fit (c .before .before .before .before .before .before .before .before .pre .1) (c .before .before .before .plan-at .ensures) (c .before .next .given .1) }
+value-add-t18 : (t : ℕ) → value-lts.Need-add-t18 (value-claims t) (value-at t) value.Post
+value-add-t18 t c = record { fits = single-fits (c .before .before .before .before .before .before .before .before .pre .1) (c .before .before .before .plan-at .ensures) (c .before .next .given .1) }
 
 value-enum-known-contents : (t : ℕ) → value-lts.Need-enum-known-contents (value-claims t) (value-at t) value.Post
 value-enum-known-contents t c = c .match .keys3
@@ -188,7 +181,6 @@ pub +elements+value-spec : {M : Type 1} → statement M
     (elements-same-length-3 t)
     (elements-returns-3 t)
     (elements-enum-known-there t)
-    (elements-low-after-requires t)
     (elements-loop-less t)
     (elements-loop-again t))
     λ t. value-lts.spec (value-claims t) (value-at t)
@@ -198,9 +190,8 @@ pub +elements+value-spec : {M : Type 1} → statement M
     (value-plan-at-requires t)
     (value-enum-known-r t)
     (value-enum-known-next t)
-    (value-add-t17 t)
-    (value-cast-t18 t)
-    (value-add-t19 t)
+    (value-cast-t17 t)
+    (value-add-t18 t)
     (value-enum-known-contents t)
     (value-add-elements t)
     (value-sub-elements t)

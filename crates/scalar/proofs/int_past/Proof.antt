@@ -5,6 +5,12 @@ use Rattle.scalar.proofs.Integers.{past-end, past-one, word-passes}
 use borrow.Author.Needs.{needs}
 use Rattle.scalar.proofs.int_past.Statement.{statement}
 use Rattle.scalar.proofs.int_past.Tie as tie
+use Rattle.scalar.proofs.int_past.Reads as reads
+use Rattle.scalar.proofs.int_past.Lts as lts
+use Rattle.integer.proofs.ends_at.Reads as ends-at-reads
+use Rattle.integer.proofs.first_end.Reads as first-end-reads
+use Rattle.scalar.proofs.fits_in.Reads as fits-in-reads
+use Rattle.scalar.proofs.long_past.Reads as long-past-reads
 
 returns : tie.Need-returns
 returns c = past-end (c .before .before .args .w) (c .if1 .taken)
@@ -15,8 +21,8 @@ sub-if2 c = search needs
 ends-at-requires : tie.Need-ends-at-requires
 ends-at-requires c κs = search needs
 
-add-t11 : tie.Need-add-t11
-add-t11 c = search needs
+add-next : tie.Need-add-next
+add-next c = search needs
 
 returns-2 : tie.Need-returns-2
 returns-2 c = past-one (c .before .before .before .before .before .args .w) (omega arith) (ends-one _ _ (λ i. c .before .before .before .before .shared-slice-known .given i .fits) refl (c .before .ends-at .ensures) (c .if3 .taken))
@@ -36,9 +42,6 @@ fits-in-requires c κs = search needs
 add-t16 : tie.Need-add-t16
 add-t16 c = search needs
 
-add-t17 : tie.Need-add-t17
-add-t17 c = search needs
-
 returns-3 : tie.Need-returns-3
 returns-3 c = word-passes (c .before .before .before .before .before .before .before .before .before .before .args .w) _ _ (omega arith) (λ i. c .before .before .before .before .before .before .before .before .before .shared-slice-known .given i .fits) (c .before .before .before .before .before .before .ends-at .ensures) (c .before .before .before .before .if4 .taken) (c .before .before .before .first-end .ensures .0) (c .before .fits-in .ensures) (c .if5 .taken)
 
@@ -55,14 +58,13 @@ int-past-spec =
     returns
     sub-if2
     ends-at-requires
-    add-t11
+    add-next
     returns-2
     first-end-requires
     add-fits-in
     shared-slice-read-fits-in
     fits-in-requires
     add-t16
-    add-t17
     returns-3
     long-past-requires
     returns-4)
