@@ -63,7 +63,7 @@ plain (negsuc n) = by (ltb n 40) (ltb n 64)
 
 -- ---- the form of bare values of a type
 
-pub few-octets : (t : ℤ) {n : ℕ} → Is (Fixed n) t → n < 256
+few-octets : (t : ℤ) {n : ℕ} → Is (Fixed n) t → n < 256
 few-octets t i = subst Plain (i .1) (plain t) .3
 
 pub bare-sound : (t : ℤ) → Sound (bareForm t)
@@ -108,7 +108,7 @@ formFor (Holder h) t = Bare t
 formFor Identity t = Bare t
 formFor Reference t = Bare t
 
-pub form-for : (c : Class) (t : ℤ) → Is c t → formFor c t ≡ bareForm t
+form-for : (c : Class) (t : ℤ) → Is c t → formFor c t ≡ bareForm t
 unfolding bareForm
 form-for Refused t i = rw i
 form-for Small t i = rw (i .2)

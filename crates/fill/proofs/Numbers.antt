@@ -77,7 +77,7 @@ own-is form h s = by (says form) (s .0)
     by unknown s = sym (s .0)
     by (known t) s = sym (s .0)
 
--- and that its form may have
+-- the type of a value that stands in a form is one that the form may have
 pub of-type : (form : Form) (h : Head) → Stands form h → OfType (says form) (h .ty)
 of-type form h s = by (says form) (s .0)
   where
