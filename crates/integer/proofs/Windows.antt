@@ -7,8 +7,8 @@ use native.Mathlib.Omega.{arith}
 use lib.ListN.{getD}
 use lib.Dec.{ltb, lit<, lit≤}
 use lib.Bits.{bitAnd, bitXor, and-le-l, and-block, and-mask, and-high, xor-block, xor-self, and-zero-r, shifted-half, shifted-even}
-use lib.Pow.{pow-add, pow-pos, pow-mono, mod-pow-add, mod-mod-pow}
-use native.Mathlib.Nat.{add-sub-cancel-left, mul-div-cancel-left, div-add-mod', mod-lt, lt-of-lt-of-le, mul-comm, mul-assoc, pow-suc, div-le-self, pos-of-ne-zero}
+use lib.Pow.{pow-add, pow-pos, pow-mono, mod-pow-add, mod-mod-pow, shr-shr, shr-lt, shl-shr, high, low}
+use native.Mathlib.Nat.{add-sub-cancel-left, mul-div-cancel-left, div-add-mod', mod-lt, lt-of-lt-of-le, mul-comm, mul-assoc, suc-mul, mul-mod-left, mul-le-mul-right, pow-suc, div-le-self, pos-of-ne-zero}
 use lib.Count.{trailingZeros, under}
 use borrow.Author.Tests.{ltb-true, ltb-false}
 use Rattle.integer.specs.Windows.{little, ends, lead, folded, sevens, sevensAt, Ending}
@@ -342,3 +342,121 @@ module _ (o : List ℕ) (at : ℕ) {w e k : ℕ} (small : (i : ℕ) → getD o i
 
   pub ends-held : {bits : ℕ} → bits ≡ sevens (suc (lead 8 w)) w → bits ≡ sevensAt (suc k) o at
   ends-held q = q ∙ ap (λ (k : ℕ). sevens (suc k) w) leads ∙ ap (sevens (suc k)) word ∙ sevens-at o small (suc k) 8 at ends-few
+
+-- ---- further on
+
+-- as the code moves a word's bits down, and the next word's into their place
+module _ (near far z : ℕ) (h : z < 64) (fits : near < 2 ^ 64) where
+  all : 63 - z + (z + 1) ≡ 64
+  all = omega arith
+
+  turned : z + 1 + (63 - z) ≡ 64
+  turned = omega arith
+
+  moved-near : near / 2 ^ z / 2 ≡ near / 2 ^ (z + 1)
+  moved-near = shr-shr near z 1
+
+  moved-far : far * 2 ^ (63 - z) % 2 ^ 64 ≡ far % 2 ^ (z + 1) * 2 ^ (63 - z)
+  moved-far =
+      ap (λ (k : ℕ). far * 2 ^ (63 - z) % 2 ^ k) (sym turned) ∙ mod-pow-add (far * 2 ^ (63 - z)) (z + 1) (63 - z)
+      ∙ rw (shl-shr far (63 - z), mul-mod-left far (2 ^ (63 - z))) (omega arith)
+
+  pub moved-is : near / 2 ^ z / 2 + far * 2 ^ (63 - z) % 2 ^ 64 ≡ near / 2 ^ (z + 1) + far % 2 ^ (z + 1) * 2 ^ (63 - z)
+  moved-is = ap₂ _+_ moved-near moved-far
+
+  pub moved-fits : near / 2 ^ z / 2 + far * 2 ^ (63 - z) % 2 ^ 64 < 2 ^ 64
+  moved-fits =
+      let low-part : near / 2 ^ (z + 1) < 2 ^ (63 - z) = shr-lt (63 - z) (z + 1) (subst (λ (k : ℕ). near < 2 ^ k) (sym all) fits) in
+      let high-part : suc (far % 2 ^ (z + 1)) * 2 ^ (63 - z) ≤ 2 ^ (z + 1) * 2 ^ (63 - z) = mul-le-mul-right (2 ^ (63 - z)) (mod-lt far (pow-pos (z + 1))) in
+      let whole : 2 ^ (z + 1) * 2 ^ (63 - z) ≡ 2 ^ 64 = sym (pow-add 2 (z + 1) (63 - z)) ∙ ap (λ (k : ℕ). 2 ^ k) turned in
+      let one-more : suc (far % 2 ^ (z + 1)) * 2 ^ (63 - z) ≡ far % 2 ^ (z + 1) * 2 ^ (63 - z) + 2 ^ (63 - z) = suc-mul (far % 2 ^ (z + 1)) (2 ^ (63 - z)) in
+      rw (moved-near, moved-far) (omega arith)
+
+-- the ends of n octets from a place on
+unfoldable endsAt : ℕ → List ℕ → ℕ → ℕ
+endsAt zero o at = 0
+endsAt (suc n) o at = cond (ltb (getD o at 0) 128) 128 0 + 256 * endsAt n o (at + 1)
+
+module _ (o : List ℕ) where
+  ends-below : (n at : ℕ) → endsAt n o at < 2 ^ wide n
+  unfolding endsAt
+  ends-below zero at = lit< tt
+  ends-below (suc n) at = omega (arith, power (wide n), by (ltb (getD o at 0) 128), ends-below n (at + 1))
+    where
+      by : (t : Bool) → cond t 128 0 < 256
+      by true = lit< tt
+      by false = lit< tt
+
+  ends-join : (n m at : ℕ) → endsAt (up n m) o at ≡ endsAt m o (at + n) * 2 ^ wide n + endsAt n o at
+  unfolding endsAt
+  ends-join zero m at = let here : at + 0 ≡ at = omega arith in rw here (omega arith)
+  ends-join (suc n) m at =
+      let there : at + 1 + n ≡ at + suc n = omega arith in
+      rw (ends-join n m (at + 1), there, power (wide n), ← mul-assoc (endsAt m o (at + suc n)) (2 ^ wide n) 256) (omega arith)
+
+  -- the ends of as many octets, n further on
+  ends-further : (n m at : ℕ) {x y : ℕ} → x ≡ endsAt (up n m) o at → y ≡ endsAt (up n m) o (at + up n m)
+      → x / 2 ^ wide n + y % 2 ^ wide n * 2 ^ wide m ≡ endsAt (up m n) o (at + n)
+  ends-further n m at {x} {y} ex ey =
+      let there : at + n + m ≡ at + up n m = omega (arith, up-is n m) in
+      rw (ex, ey, ends-join n m at, ends-join n m (at + up n m), high (endsAt m o (at + n)) (wide n) (ends-below n at), low (endsAt m o (at + up n m + n)) (wide n) (ends-below n (at + up n m)), ends-join m n (at + n), there) (omega arith)
+
+  ends-are : ((i : ℕ) → getD o i 0 < 256) → (n at : ℕ) → ends n (little n o at) ≡ endsAt n o at
+  unfolding ends endsAt
+  ends-are small zero at = refl
+  ends-are small (suc n) at = rw (low-octet o small n at, high-octets o small n at, ends-are small n (at + 1))
+
+-- zeros below the first end
+end-zeros : (n w : ℕ) → 0 < ends n w → trailingZeros (wide n) (ends n w) ≡ 8 * lead n w + 7
+unfolding ends lead
+end-zeros zero w h = absurd (omega arith)
+end-zeros (suc n) w h = by (ltb (w % 256) 128) (ends n (w / 256)) (lead n (w / 256)) (end-zeros n (w / 256)) h
+  where
+    by : (t : Bool) (e k : ℕ) → (0 < e → trailingZeros (wide n) e ≡ 8 * k + 7) → 0 < cond t 128 0 + 256 * e
+        → trailingZeros (wide (suc n)) (cond t 128 0 + 256 * e) ≡ 8 * cond t 0 (suc k) + 7
+    by true e k f h =
+        let is : 128 + 256 * e ≡ (e * 2 + 1) * 2 ^ 7 = omega arith in
+        rw (is, shifted-zeros 7 (suc (wide n)) (e * 2 + 1), odd-none (wide n) e)
+    by false e k f h =
+        let is : 0 + 256 * e ≡ e * 2 ^ 8 = omega arith in
+        rw (is, shifted-zeros 8 (wide n) e, f (omega arith)) (omega arith)
+
+wide-is : (n : ℕ) → wide n ≡ 8 * n
+wide-is zero = refl
+wide-is (suc n) = omega (arith, wide-is n)
+
+-- the ends past the first, where those of the eight octets from a place on are known and those of the eight after them
+pub ends-past : (o : List ℕ) (at : ℕ) {near far z k r : ℕ} → ((i : ℕ) → getD o i 0 < 256) → near ≡ ends 8 (little 8 o at) → far ≡ ends 8 (little 8 o (at + 8)) → (near ≡ 0 → ⊥)
+    → z ≡ trailingZeros 64 near → k ≡ z / 8 → r ≡ near / 2 ^ (z + 1) + far % 2 ^ (z + 1) * 2 ^ (63 - z) → r ≡ ends 8 (little 8 o (at + k + 1))
+ends-past o at {near} {far} {z} {k} {r} small en ef ne ez ek er =
+    er ∙ rw (low-bits, high-bits, ends-are o small 8 (at + k + 1), ← turned, ← there) (ends-further o (suc k) (7 - k) at (at-place at en) far-is)
+  where
+    some : 0 < ends 8 (little 8 o at)
+    some = subst (λ (e : ℕ). 0 < e) en (pos-of-ne-zero ne)
+
+    zeros : z ≡ 8 * lead 8 (little 8 o at) + 7
+    zeros = ez ∙ ap (trailingZeros 64) en ∙ end-zeros 8 (little 8 o at) some
+
+    few : k < 8
+    few = omega (arith, zeros, ends-lead 8 (little 8 o at) some)
+
+    low-bits : z + 1 ≡ wide (suc k)
+    low-bits = omega (arith, zeros, wide-is (suc k))
+
+    high-bits : 63 - z ≡ wide (7 - k)
+    high-bits = omega (arith, zeros, few, wide-is (7 - k))
+
+    eight : up (suc k) (7 - k) ≡ 8
+    eight = omega (arith, few, up-is (suc k) (7 - k))
+
+    turned : up (7 - k) (suc k) ≡ 8
+    turned = omega (arith, few, up-is (7 - k) (suc k))
+
+    there : at + suc k ≡ at + k + 1
+    there = omega arith
+
+    at-place : {x : ℕ} (p : ℕ) → x ≡ ends 8 (little 8 o p) → x ≡ endsAt (up (suc k) (7 - k)) o p
+    at-place p e = e ∙ ends-are o small 8 p ∙ ap (λ (n : ℕ). endsAt n o p) (sym eight)
+
+    far-is : far ≡ endsAt (up (suc k) (7 - k)) o (at + up (suc k) (7 - k))
+    far-is = at-place (at + 8) ef ∙ ap (λ (n : ℕ). endsAt (up (suc k) (7 - k)) o (at + n)) (sym eight)

@@ -1,5 +1,5 @@
 ghost use mathlib.Core.Path.{_≡_};
-ghost use Prim.Native.Nat.{suc, _+_, _/_, _%_, _^_, _≤_, _<_};
+ghost use Prim.Native.Nat.{suc, _+_, _-_, _*_, _/_, _%_, _^_, _≤_, _<_};
 ghost use lib.ListN.{length};
 ghost use lib.Signed.{mag};
 ghost use lib.Count.{trailingZeros};
@@ -59,6 +59,14 @@ pub fn first_end(e: u64) -> usize
     ensures { λ r. ⌜ (r ≡ trailingZeros 64 e / 8) × (r < 8) ⌝ }
 {
     (u64::trailing_zeros(e) / 8) as usize
+}
+
+// The ends of eight octets past the first that isn't continued, by those of the eight and of the eight after them; its end has z zeros below it.
+pub fn ends_on(near: u64, far: u64, z: u32) -> u64
+    requires { ⌜ z < 64 ⌝ }
+    ensures { λ r. ⌜ r ≡ near / 2 ^ (z + 1) + far % 2 ^ (z + 1) * 2 ^ (63 - z) ⌝ }
+{
+    ((near >> z) >> 1) + (far << (63 - z))
 }
 
 // The bits of a mask as they are, and the others moved down: divided by `by`.
@@ -215,7 +223,7 @@ pub fn int32_at(src: &[u8], at: usize) -> Read32
     if b < 128 {
         return Read32::Int32(at + 1, signed32(b % 128 < 64, (b % 64) as u64));
     }
-    match tail_at(src, at, b, 4, 2147483648) {
+    match tail_at(&*src, at, b, 4, 2147483648) {
         Magnitude::Mag(next, n) => Read32::Int32(next, signed32(b % 128 < 64, n)),
         Magnitude::Ill(r) => Read32::Refused32(r),
     }
@@ -238,7 +246,7 @@ pub fn signed_at(src: &[u8], at: usize) -> Signed
     if b < 128 {
         return Signed::Negative(at + 1, (b - 64) as u32);
     }
-    match tail_at(src, at, b, 4, 2147483648) {
+    match tail_at(&*src, at, b, 4, 2147483648) {
         Magnitude::Mag(next, n) => {
             if b < 192 {
                 return Signed::Positive(next, n as u32);

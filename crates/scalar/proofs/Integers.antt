@@ -2,7 +2,7 @@
 use mathlib.Core.Path.{_≡_, refl, sym, subst, _∙_}
 use mathlib.Core.Bool.{Bool, true, false, cond}
 use mathlib.Core.List.{List}
-use Prim.Native.Nat.{ℕ, zero, suc, _+_, _*_, _/_, _%_, _^_, _<_, _≤_}
+use Prim.Native.Nat.{ℕ, zero, suc, _+_, _-_, _*_, _/_, _%_, _^_, _<_, _≤_}
 use native.Mathlib.Omega.{arith}
 use native.Mathlib.Nat.{pow-suc, pow-le-pow-right, mul-le-mul-left, le-trans}
 use lib.ListN.{length, getD}
@@ -10,7 +10,7 @@ use lib.Count.{trailingZeros}
 use lib.Dec.{ltb, leb, lit<, lit≤}
 use lib.IntN.{ℤ, pos, negsuc}
 use lib.Signed.{mag}
-use borrow.Author.Tests.{ltb-true, ltb-false, leb-true, eqb-false, not-true, lt-ltb, ne-eqb}
+use borrow.Author.Tests.{ltb-true, ltb-false, leb-true, eqb-false, not-true, lt-ltb, le-leb, ne-eqb}
 use Rattle.reading.specs.declared.Refusal.{Refusal}
 use Rattle.reading.specs.Reading.{Env, State, Out, got, stop, refusal, stand, follow, _>>=_, return, require, either, here, octet}
 use Rattle.integer.specs.Packed.{wide16, wide32, wide64, further, sign, positive, integer}
@@ -25,14 +25,15 @@ use mir.Val.{toZ, ofZ}
 use Rattle.integer.proofs.Signs.{returned}
 use Rattle.integer.proofs.Spelling.{mag-sign}
 use Rattle.integer.specs.Windows.{little, ends, sevensAt, Ending}
-use Rattle.integer.proofs.Windows.{ends-few, ends-first}
+use Rattle.integer.proofs.Windows.{ends-few, ends-first, ends-past}
 use Rattle.integer.proofs.Steps.{tail-joined, tail-ends, ending-after, further-last, sevens-below, found-mag, integer-end, integer-one, told}
 use Rattle.format.specs.Data.{within}
 use Rattle.scalar.specs.declared.Bits.{Bits}
 use Rattle.scalar.specs.declared.Bits.the-variants.{Bits16, Bits32, Bits64}
 use Rattle.scalar.specs.declared.Passed.{Passed}
 use Rattle.scalar.specs.declared.Passed.the-variants.{Past, Refused}
-use Rattle.scalar.specs.Answers.{widthOf, mostOf, fitting, Passes}
+use Rattle.scalar.specs.declared.Ran.the-variants.{Onto, Halted}
+use Rattle.scalar.specs.Answers.{widthOf, mostOf, fitting, Passes, pastOf, Ahead, Runs}
 use Rattle.scalar.proofs.Tests.{leb-below, and-true, and-split}
 use Rattle.scalar.proofs.Passing.{passes-got, passes-stop}
 
@@ -185,6 +186,41 @@ pub word-passes : (w : Bits) (o : List ℕ) (at : ℕ) {e k : ℕ} {t : Bool} �
 word-passes w o at {e} {k} room small is ne first t on =
     let past : at + 1 + k ≡ at + k + 1 = omega arith in
     rw past (ends-pass w k room (ends-few o at small refl is ne first) (ends-first o at small refl is ne first) (sym t ∙ on))
+
+-- ---- integers, one after another
+
+-- as the code tests it: where k isn't 0, k ≤ b * 8 says that b isn't 0
+fits-by : (w : Bits) (k b : ℕ) {most : ℕ} → most ≡ mostOf w → k ≤ b * 8 → k * 256 + b ≤ most → fitting w k b ≡ true
+fits-by w zero b q g h = rw (le-leb (0 * 256 + b) (mostOf w) (omega arith))
+fits-by w (suc k) b q g h = rw (ne-eqb (suc k) 0 (λ e. omega arith), ne-eqb b 0 (λ e. omega arith), le-leb (suc k * 256 + b) (mostOf w) (omega arith))
+
+-- nothing is known where sixteen octets aren't there
+ahead : {o : List ℕ} {at near far : ℕ} (t : Bool) → near ≡ cond t (ends 8 (little 8 o at)) 0 → far ≡ cond t (ends 8 (little 8 o (at + 8))) 0 → Ahead o at near far
+ahead true n f = record { known = λ ne. (n, f) }
+ahead false n f = record { known = λ ne. absurd (ne n) }
+
+module _ (w : Bits) {o : List ℕ} {at : ℕ} {r : Passed} (h : Passes 1 o at (integer (widthOf w)) r) where
+  pub next-within : {next : ℕ} → r ≡ Past next → next ≤ length o
+  next-within q = subst (pastOf 1 o at) q (h .past) .1
+
+  pub runs-got : {next near far : ℕ} (t : Bool) → r ≡ Past next → near ≡ cond t (ends 8 (little 8 o next)) 0 → far ≡ cond t (ends 8 (little 8 o (next + 8))) 0
+      → Runs w o at (Onto next near far)
+  runs-got t q n f = record { is = (subst (Passes 1 o at (integer (widthOf w))) q h, ahead t n f) }
+
+  pub runs-stop : {x : Refusal} → r ≡ Refused x → Runs w o at (Halted x)
+  runs-stop q = record { is = subst (Passes 1 o at (integer (widthOf w))) q h }
+
+-- by the ends of the sixteen octets ahead
+pub runs-on : (w : Bits) (o : List ℕ) (at : ℕ) {near far most r s : ℕ} (k : ℕ) → at + 24 ≤ length o → ((i : ℕ) → getD o i 0 < 256) → Ahead o at near far → (near ≡ 0 → ⊥)
+    → k ≡ trailingZeros 64 near / 8 → most ≡ mostOf w → k ≤ getD o (at + k) 0 * 8 → k * 256 + getD o (at + k) 0 ≤ most
+    → r ≡ near / 2 ^ (trailingZeros 64 near + 1) + far % 2 ^ (trailingZeros 64 near + 1) * 2 ^ (63 - trailingZeros 64 near) → s ≡ ends 8 (little 8 o (at + k + 9))
+    → Runs w o at (Onto (at + k + 1) r s)
+runs-on w o at k room small a ne first q g h er es =
+    let known = a .known ne in
+    let past : at + 1 + k ≡ at + k + 1 = omega arith in
+    let then : at + k + 1 + 8 ≡ at + k + 9 = omega arith in
+    let passed = word-passes w o at (omega arith) small (known .0) ne first refl (fits-by w k (getD o (at + k) 0) q g h) in
+    record { is = (rw past at passed, record { known = λ _. (ends-past o at small (known .0) (known .1) ne refl first er, rw then es) }) }
 
 -- ---- an integer of one or two octets
 

@@ -7,12 +7,15 @@ use Prim.Native.Nat.{ℕ, _+_, _*_, _^_, _<_, _≤_}
 use lib.ListN.{length, take, drop}
 use lib.Dec.{eqb, leb}
 use Rattle.reading.specs.Reading.{Env, State, Out, got, stop, refusal, Reader, stand, _>>=_, return}
-use Rattle.integer.specs.Packed.{Width, wide16, wide32, wide64}
+use Rattle.integer.specs.Packed.{Width, wide16, wide32, wide64, integer}
+use Rattle.integer.specs.Windows.{little, ends}
 use Rattle.format.specs.Data.{big, character}
 use Rattle.scalar.specs.declared.Coded.{Coded}
 use Rattle.scalar.specs.declared.Coded.the-variants.{Code, Lost}
 use Rattle.scalar.specs.declared.Passed.{Passed}
 use Rattle.scalar.specs.declared.Passed.the-variants.{Past, Refused}
+use Rattle.scalar.specs.declared.Ran.{Ran}
+use Rattle.scalar.specs.declared.Ran.the-variants.{Onto, Halted}
 use Rattle.scalar.specs.declared.Moment.{Moment}
 use Rattle.scalar.specs.declared.Moment.the-variants.{Parts, Unfit}
 use Rattle.scalar.specs.declared.Bits.{Bits}
@@ -54,6 +57,20 @@ mostOf Bits64 = 1919
 -- so an integer is in its shortest form and fits. (Where k is 0, b is the first octet.)
 abbrev pub fitting : Bits → ℕ → ℕ → Bool
 fitting w k b = (eqb k 0 || not (eqb b 0)) && leb (k * 256 + b) (mostOf w)
+
+-- ---- integers, one after another
+
+-- what is known of the sixteen octets from a place on: which of them aren't continued, of the first eight and of the next. Where `near` is 0, nothing.
+pub record Ahead (o : List ℕ) (at near far : ℕ) : Type 0 where
+  pub known : (near ≡ 0 → ⊥) → (near ≡ ends 8 (little 8 o at)) × (far ≡ ends 8 (little 8 o (at + 8)))
+
+-- an integer is passed, and what lies ahead of the place past it
+abbrev pub RanIs : Bits → List ℕ → ℕ → Ran → Type 0
+RanIs w o at (Onto next near far) = Passes 1 o at (integer (widthOf w)) (Past next) × Ahead o next near far
+RanIs w o at (Halted r) = Passes 1 o at (integer (widthOf w)) (Refused r)
+
+pub record Runs (w : Bits) (o : List ℕ) (at : ℕ) (r : Ran) : Type 0 where
+  pub is : RanIs w o at r
 
 -- ---- dates and times
 

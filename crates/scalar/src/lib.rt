@@ -7,9 +7,10 @@ ghost use lib.Dec.{leb};
 ghost use lib.IntN.{pos};
 ghost use Rattle.integer.specs.Packed.{integer, wide16, wide32, wide64, sign};
 ghost use Rattle.integer.specs.Answers.{Reads32};
+ghost use Rattle.integer.specs.Windows.{little, ends};
 ghost use Rattle.format.specs.Types.{octets, characters, date, dateTime};
 ghost use Rattle.format.specs.Data.{within, run, bits, followers, codeOf, character, contents, leap, days, dateFits};
-ghost use Rattle.scalar.specs.Answers.{widthOf, mostOf, fitting, Passes, Passing, Size, bigAt, Codes};
+ghost use Rattle.scalar.specs.Answers.{widthOf, mostOf, fitting, Passes, Passing, Size, bigAt, Codes, Ahead, Runs};
 ghost use Rattle.scalar.specs.Parts.{counts, Spells, Plain, Reached, Told};
 ghost use Rattle.scalar.specs.Moments.{ReadsTwo, ReadsThree, clockFits, countOf, offsets, clock, partsOf, isTime, isClocked};
 use integer::Read32;
@@ -48,7 +49,7 @@ pub enum Bits {
 }
 
 // k octets after the first, the last of them b, fit where k * 256 + b is at most this; of integers of at most eight octets.
-fn most_of(w: Bits) -> usize
+pub fn most_of(w: Bits) -> usize
     ensures { λ r. ⌜ r ≡ mostOf w ⌝ }
 {
     match w {
@@ -148,6 +149,69 @@ pub fn int_past(src: &[u8], at: usize, w: Bits) -> Passed
         }
     }
     long_past(src, at, w)
+}
+
+// ---- Integers, one after another ----
+
+// The place past an integer, and what lies ahead of it: the ends of the eight octets there, and of the eight after them, or 0; or a refusal.
+pub enum Ran {
+    Onto(usize, u64, u64),
+    Halted(Refusal),
+}
+
+// The ends of the eight octets from a place on, where sixteen are there; else 0.
+fn near_at(src: &[u8], at: usize) -> u64
+    requires { ⌜ (at ≤ length (now src)) × (length (now src) ≤ 65535) ⌝ }
+    ensures { λ r. ⌜ r ≡ cond (leb (at + 16) (length (now (src .entry)))) (ends 8 (little 8 (now (src .entry)) at)) 0 ⌝ }
+{
+    if at + 16 <= src.len() {
+        return integer::ends_at(src, at);
+    }
+    0
+}
+
+// The ends of the eight octets after these, likewise.
+fn far_at(src: &[u8], at: usize) -> u64
+    requires { ⌜ (at ≤ length (now src)) × (length (now src) ≤ 65535) ⌝ }
+    ensures { λ r. ⌜ r ≡ cond (leb (at + 16) (length (now (src .entry)))) (ends 8 (little 8 (now (src .entry)) (at + 8))) 0 ⌝ }
+{
+    if at + 16 <= src.len() {
+        return integer::ends_at(src, at + 8);
+    }
+    0
+}
+
+// Passes the integer at a place, where nothing is known of what lies ahead.
+fn long_run(src: &[u8], at: usize, w: Bits) -> Ran
+    requires { ⌜ (at ≤ length (now src)) × (length (now src) ≤ 65535) ⌝ }
+    ensures { λ r. ⌜ Runs w (now (src .entry)) at r ⌝ }
+{
+    match long_past(src, at, w) {
+        Passed::Past(next) => Ran::Onto(next, near_at(src, next), far_at(src, next)),
+        Passed::Refused(r) => Ran::Halted(r),
+    }
+}
+
+// Passes the integer at a place, by what is known of the octets ahead.
+pub fn int_ahead(src: &[u8], at: usize, w: Bits, most: usize, near: u64, far: u64) -> Ran
+    requires { ⌜ (at ≤ length (now src)) × (length (now src) ≤ 65535) × (most ≡ mostOf w) × Ahead (now src) at near far ⌝ }
+    ensures { λ r. ⌜ Runs w (now (src .entry)) at r ⌝ }
+{
+    if near != 0 {
+        if at + 24 <= src.len() {
+            let z = u64::trailing_zeros(near);
+            let k = (z / 8) as usize;
+            let last = src[at + k] as usize;
+            if k <= last * 8 && k * 256 + last <= most {
+                return Ran::Onto(
+                    at + k + 1,
+                    integer::ends_on(near, far, z),
+                    integer::ends_at(src, at + k + 9),
+                );
+            }
+        }
+    }
+    long_run(&*src, at, w)
 }
 
 // ---- Octets ----

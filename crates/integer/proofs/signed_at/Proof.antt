@@ -39,14 +39,14 @@ tail-at-requires c κs = search needs
 enum-known-next : tie.Need-enum-known-next
 enum-known-next c = search needs
 
-cast-t20 : tie.Need-cast-t20
-cast-t20 c = omega (arith, found-past {w = wide32} (c .before .before .before .before .tail-at .ensures) (omega arith) (c .before .before .before .before .before .if3 .left) (c .before .before .next .given .1) .2)
+cast-t22 : tie.Need-cast-t22
+cast-t22 c = omega (arith, found-past {w = wide32} (c .before .before .before .before .tail-at .ensures) (omega arith) (c .before .before .before .before .before .if3 .left) (c .before .before .next .given .1) .2)
 
 returns-4 : tie.Need-returns-4
 returns-4 c = record { same = λ e. told (more-positive _ _ (c .before .before .before .before .before .if3 .left) (c .if4 .taken)) (found-mag {w = wide32} (c .before .before .before .before .tail-at .ensures) (omega arith) (c .before .before .before .before .before .if3 .left) (c .before .before .next .given .1) e); past = found-past {w = wide32} (c .before .before .before .before .tail-at .ensures) (omega arith) (c .before .before .before .before .before .if3 .left) (c .before .before .next .given .1) }
 
-cast-t21 : tie.Need-cast-t21
-cast-t21 c = omega (arith, found-past {w = wide32} (c .before .before .before .before .tail-at .ensures) (omega arith) (c .before .before .before .before .before .if3 .left) (c .before .before .next .given .1) .2)
+cast-t23 : tie.Need-cast-t23
+cast-t23 c = omega (arith, found-past {w = wide32} (c .before .before .before .before .tail-at .ensures) (omega arith) (c .before .before .before .before .before .if3 .left) (c .before .before .next .given .1) .2)
 
 enum-known-r : tie.Need-enum-known-r
 enum-known-r c = search needs
@@ -71,9 +71,9 @@ signed-at-spec =
     returns-3
     tail-at-requires
     enum-known-next
-    cast-t20
+    cast-t22
     returns-4
-    cast-t21
+    cast-t23
     enum-known-r
     returns-5
     returns-6)
