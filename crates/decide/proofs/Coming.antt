@@ -1,11 +1,12 @@
 -- The next value of a container, as the code decides it.
-use mathlib.Core.Path.{_≡_, sym, ap, subst, _∙_}
-use mathlib.Core.Bool.{Bool, true, false}
+use mathlib.Core.Path.{_≡_, refl, sym, ap, subst, _∙_}
+use mathlib.Core.Bool.{Bool, true, false, cond}
 use mathlib.Core.List.{List}
-use Prim.Native.Nat.{ℕ, _+_, _<_, _≤_}
+use Prim.Native.Nat.{ℕ, _+_, _^_, _<_, _≤_}
 use native.Mathlib.Omega.{arith}
 use native.Mathlib.Numerals.{add-one}
 use lib.ListN.{length}
+use lib.Dec.{leb}
 use borrow.Author.Tests.{le-leb, lt-leb, le-ltb, lt-ltb}
 use Rattle.reading.specs.declared.Refusal.{Refusal}
 use Rattle.reading.specs.Reading.{Env, refusal, stand}
@@ -16,6 +17,7 @@ use Rattle.format.specs.Values.{label}
 use Rattle.decide.specs.declared.Next.{Next}
 use Rattle.decide.specs.declared.Next.the-variants.{Value, End, Halt}
 use Rattle.decide.specs.Coming.{comingByIndex, coming, NextAt, IndexNext}
+use Rattle.decide.specs.Forms.{listedIn}
 
 module _ {o : List ℕ} {at : ℕ} {x : Signed} (reads : ReadsSigned o at x) where
   -- by the index that was read
@@ -49,8 +51,19 @@ module _ {o : List ℕ} {x paired : Bool} {count low at : ℕ} where
   pub next-index : x ≡ true → {r : Next} → IndexNext o count low at r → NextAt o x paired count low at r
   next-index e h = rw e (h .next paired)
 
-  pub next-end : x ≡ false → at ≤ length o → count ≤ low → NextAt o x paired count low at (End at)
-  next-end e h l = rw e record { same = λ _. rw (le-ltb low count l); past = (omega arith, h) }
-
-  pub next-value : x ≡ false → at ≤ length o → low < count → {j : ℕ} → j ≡ label paired low → NextAt o x paired count low at (Value at j (low + 1))
+  next-value : x ≡ false → at ≤ length o → low < count → {j : ℕ} → j ≡ label paired low → NextAt o x paired count low at (Value at j (low + 1))
   next-value e h l q = rw (e, q) record { same = λ _. rw (lt-ltb low count l); past = (omega arith, h, omega arith, omega arith, add-one low) }
+
+  pub next-listed : {n : ℕ} → n ≡ listedIn x count → at ≤ length o → low < n → {j : ℕ} → j ≡ label paired low → NextAt o x paired count low at (Value at j (low + 1))
+  next-listed {n} e h l {j} q = by x refl (leb count 4294967295) (subst (λ (k : ℕ). low < k) e l)
+    where
+      by : (b : Bool) → x ≡ b → (t : Bool) → low < cond b 0 (cond t count 0) → NextAt o x paired count low at (Value at j (low + 1))
+      by true i t k = absurd (omega arith)
+      by false i true k = next-value i h k q
+      by false i false k = absurd (omega arith)
+
+  pub next-end : {n : ℕ} → n ≡ listedIn x count → count < 2 ^ 32 → at ≤ length o → x ≡ false → n ≤ low → NextAt o x paired count low at (End at)
+  next-end {n} e few h i l = rw i record { same = λ _. rw (le-ltb low count (subst (λ (k : ℕ). k ≤ low) all l)); past = (omega arith, h) }
+    where
+      all : n ≡ count
+      all = e ∙ rw (i, le-leb count 4294967295 (omega arith))

@@ -4,3 +4,4 @@ pub mod Elements
 pub mod Plain
 pub mod Forms
 pub mod Coming
+pub mod Runs

@@ -4,7 +4,7 @@ use mathlib.Core.Bool.{Bool, true, false, cond}
 use mathlib.Core.List.{List}
 use Prim.Native.Nat.{ℕ, _*_, _%_, _^_, _<_, _≤_}
 use lib.ListN.{length}
-use lib.Dec.{eqb}
+use lib.Dec.{eqb, leb}
 use lib.IntN.{ℤ}
 use Rattle.reading.specs.Reading.{Env, got, stop, stand}
 use Rattle.integer.specs.Packed.{Width, wide32, integer}
@@ -123,8 +123,12 @@ abbrev pub formOf : Bool → ℤ → Form
 formOf true t = bareForm t
 formOf false t = Whole
 
+-- how many values stand by position, where 32 bits hold that
+abbrev pub listedIn : Bool → ℕ → ℕ
+listedIn x count = cond x 0 (cond (leb count 4294967295) count 0)
+
 abbrev pub nestWith : Bool → Bool → Form → Form → ℕ → Nest
-nestWith x p f g n = record { count = n; form = f; other = g; indexed = x; paired = p }
+nestWith x p f g n = record { count = n; listed = listedIn x n; form = f; other = g; indexed = x; paired = p }
 
 abbrev pub alikeNest : Form → ℕ → Bool → Nest
 alikeNest f n x = nestWith x false f f n

@@ -5,8 +5,9 @@ ghost use Rattle.reading.specs.Reading.{refusal};
 ghost use Rattle.format.specs.Values.{label};
 ghost use Rattle.decide.specs.Classes.{ClassOf, mayBeElement};
 ghost use Rattle.decide.specs.Elements.{AmountAt, ElementAt, TypeAt};
-ghost use Rattle.decide.specs.Forms.{ownOf, IdentifierAt, TypedAt, ClassAt, ClassIn, bareForm, formOf, alikeNest, nestIn, turn};
+ghost use Rattle.decide.specs.Forms.{ownOf, IdentifierAt, TypedAt, ClassAt, ClassIn, bareForm, formOf, listedIn, alikeNest, nestIn, turn};
 ghost use Rattle.decide.specs.Coming.{IndexNext, NextAt};
+ghost use Rattle.decide.specs.Runs.{octetsOf, integersOf, RunOf, RunIn};
 use integer::Read32;
 use integer::Signed;
 use reading::Refusal;
@@ -259,14 +260,28 @@ pub fn class_in(form: Form, t: i32) -> Class
 
 // ---- What a container holds ----
 
-// The values of a container: how many, or below what their indexes; how they stand, by turns; whether they have indexes, and whether they are the keys
-// and values of a map.
+// The values of a container: how many, or below what their indexes; how many stand by position; how they stand, by turns; whether they have indexes, and
+// whether they are the keys and values of a map.
 pub struct Nest {
     pub count: usize,
+    pub listed: u32,
     pub form: Form,
     pub other: Form,
     pub indexed: bool,
     pub paired: bool,
+}
+
+// How many values of a container stand by position: none, where they have indexes. (Nor where 32 bits don't hold the count, which no container has.)
+fn listed_of(indexed: bool, count: usize) -> u32
+    ensures { λ r. ⌜ r ≡ listedIn indexed count ⌝ }
+{
+    if indexed {
+        return 0;
+    }
+    if 4294967295 < count {
+        return 0;
+    }
+    count as u32
 }
 
 // Values that stand in one form.
@@ -275,6 +290,7 @@ pub fn alike(form: Form, count: usize, indexed: bool) -> Nest
 {
     Nest {
         count,
+        listed: listed_of(indexed, count),
         form,
         other: form,
         indexed,
@@ -308,10 +324,12 @@ pub fn nest_of(shape: Shape, first: i32, second: i32, n: u32) -> Nest
 {
     let inside = shape.inside;
     let form = form_of(shape.first, first);
+    let pairs = 2 * n as usize;
     match inside {
         Inside::List => alike(form, n as usize, false),
         Inside::Pairs => Nest {
-            count: 2 * n as usize,
+            count: pairs,
+            listed: listed_of(false, pairs),
             form,
             other: form_of(shape.second, second),
             indexed: false,
@@ -365,17 +383,25 @@ fn label_of(paired: bool, i: u32) -> u32
 }
 
 // The next value of a container, where `low` is the position of the next one, or with indexes the least index that may come.
-pub fn next_at(src: &[u8], indexed: bool, paired: bool, count: usize, low: u32, at: usize) -> Next
-    requires { ⌜ (at ≤ length (now src)) × (count < 2 ^ 32) ⌝ }
+pub fn next_at(
+    src: &[u8],
+    listed: u32,
+    indexed: bool,
+    paired: bool,
+    count: usize,
+    low: u32,
+    at: usize,
+) -> Next
+    requires { ⌜ (at ≤ length (now src)) × (count < 2 ^ 32) × (listed ≡ listedIn indexed count) ⌝ }
     ensures { λ r. ⌜ NextAt (now (src .entry)) indexed paired count low at r ⌝ }
 {
+    if low < listed {
+        return Next::Value(at, label_of(paired, low), low + 1);
+    }
     if indexed {
         return index_next(src, count, low, at);
     }
-    if count <= (low as usize) {
-        return Next::End(at);
-    }
-    Next::Value(at, label_of(paired, low), low + 1)
+    Next::End(at)
 }
 
 // The form of the value at a position: of a map's keys and values, by turns.
@@ -386,4 +412,59 @@ pub fn turn_of(form: Form, other: Form, i: u32) -> Form
         return form;
     }
     other
+}
+
+// ---- Values that are alike ----
+
+// What all values of a container are: so many octets each; or integers of a width, with the number that tells which fit; or they are not known to be alike.
+pub enum Run {
+    Mixed,
+    Octets(usize),
+    Integers(Bits, usize),
+}
+
+fn same_sizes(n: u8, m: u8) -> Run
+    ensures { λ r. ⌜ r ≡ octetsOf n m ⌝ }
+{
+    if n == m {
+        return Run::Octets(n as usize);
+    }
+    Run::Mixed
+}
+
+fn same_widths(w: Bits, v: Bits) -> Run
+    ensures { λ r. ⌜ r ≡ integersOf w v ⌝ }
+{
+    let most = scalar::most_of(w);
+    if most == scalar::most_of(v) {
+        return Run::Integers(w, most);
+    }
+    Run::Mixed
+}
+
+// What values are that stand in two forms by turns.
+fn run_of(form: Form, other: Form) -> Run
+    ensures { λ r. ⌜ RunOf form other r ⌝ }
+{
+    match form {
+        Form::Sized(n, _) => match other {
+            Form::Sized(m, _) => same_sizes(n, m),
+            _ => Run::Mixed,
+        },
+        Form::Packed(w, _) => match other {
+            Form::Packed(v, _) => same_widths(w, v),
+            _ => Run::Mixed,
+        },
+        _ => Run::Mixed,
+    }
+}
+
+// What the values of a container are. Between those with indexes there are integers, so they make no run.
+pub fn run_in(indexed: bool, form: Form, other: Form) -> Run
+    ensures { λ r. ⌜ RunIn indexed form other r ⌝ }
+{
+    if indexed {
+        return Run::Mixed;
+    }
+    run_of(form, other)
 }

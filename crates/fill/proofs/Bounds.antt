@@ -14,7 +14,7 @@ use Rattle.fill.specs.declared.Found.{Found}
 use Rattle.fill.specs.declared.Found.the-variants.{Leaf, Holder}
 use Rattle.fill.specs.declared.Step.{Step}
 use Rattle.columns.specs.Columns.{Kept, Stored}
-use Rattle.fill.specs.Rows.{pastFound, RowAt}
+use Rattle.fill.specs.Rows.{CountedNest, pastFound, RowAt}
 use Rattle.fill.specs.Filling.{Ready, FilledValue}
 use Rattle.columns.proofs.Columns.{roomy}
 use Rattle.fill.proofs.Elements.{Turn}
@@ -34,7 +34,7 @@ one-row r = omega (arith, r .below, r .few)
 pub ready-kept : {o : List ℕ} {lim at k : ℕ} {t u : Table} → Kept u t → Ready o lim at k t → Ready o lim at k u
 ready-kept ks r = record { room = roomy ks (r .room); short = r .short; few = r .few; inside = r .inside; below = r .below }
 
-pub holder-ready : {o : List ℕ} {form : Form} {i at : ℕ} {x : Found} {lim k : ℕ} {t : Table} {row : Row} {n : Nest} → RowAt o form i at x → x ≡ Holder row n → k < lim → Ready o lim at k t → Ready o lim (row .end) (k + 1) t × (n .count < 2 ^ 32)
+pub holder-ready : {o : List ℕ} {form : Form} {i at : ℕ} {x : Found} {lim k : ℕ} {t : Table} {row : Row} {n : Nest} → RowAt o form i at x → x ≡ Holder row n → k < lim → Ready o lim at k t → Ready o lim (row .end) (k + 1) t × CountedNest n
 holder-ready {o} {at = at} x q l r = let p = subst (pastFound o at) q (x .past) in (record { room = r .room; short = r .short; few = r .few; inside = p .1; below = omega arith }, p .2)
 
 pub stored-as : {lim k : ℕ} {y z : Row} {t t' : Table} → y ≡ z → Stored lim k y t t' → Stored lim k z t t'

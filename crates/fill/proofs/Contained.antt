@@ -41,7 +41,7 @@ use Rattle.decide.specs.declared.Nest.{Nest}
 use Rattle.fill.specs.declared.Numbered.the-variants.{Number}
 use Rattle.fill.specs.declared.Data.the-variants.{Holder, Unread}
 use Rattle.fill.specs.Numbers.{Begins, NumberAt}
-use Rattle.fill.specs.Rows.{several, nestBy, foreWith, foreOf, dataWith, DataAt}
+use Rattle.fill.specs.Rows.{several, nestBy, foreWith, foreOf, dataWith, CountedNest, DataAt}
 use Rattle.fill.proofs.Begins.{unnamed, found, not-refused, moved}
 use Rattle.fill.proofs.Numbers.{ElementaryAt, element-none, amount-past, amount-held, amount-found, amount-missing}
 use Rattle.fill.proofs.Fores.{data-untyped, data-untyped-2, data-unnumbered, value-same, types-same, fore-bare, fore-past}
@@ -67,7 +67,7 @@ nought h = record { past = (omega arith, h); same = λ y g b. rw (add-zero, g) }
 parted : {o : List ℕ} {at n : ℕ} → at ≤ length o → n < 2 ^ 32 → (d : Which) → ((cs : Children) → Moments (partsOf d) cs → Begins o at (spellChildren false cs) → several cs ≡ n)
     → DataAt o (dated (partsOf d)) at (Holder (foreWith (pos 0) (pos 0) (pos 0) 0 at) (nestWith false false (Packed Bits32 (negsuc 1)) (Packed Bits32 (negsuc 1)) n))
 parted {o} {at} {n} inside small d counts = record {
-  past = ((omega arith, inside, omega arith), small);
+  past = ((omega arith, inside, omega arith), (small, refl));
   same = λ h cs g m b b'.
       let same : foreWith (pos 0) (pos 0) (pos 0) 0 at ≡ foreOf (dated (partsOf d)) h at = fore-bare (dated (partsOf d)) (element-none refl inside) refl (element-none refl inside) refl (nought inside) refl refl h g b in
       let count : several cs ≡ n = counts cs m (moved (ap (λ (f : Fore). f .end) same) b') in
@@ -143,8 +143,8 @@ module _ {o : List ℕ} {at : ℕ} (s : Shape) {r₁ : Element} (x₁ : Elementa
                 ∙ shape-data (s .inside) (s .first) (s .second) h cs (foreOf kind h at);
           }
         where
-          small : (i : Inside) → n < 2 ^ 31 → nestIn i (s .first) (s .second) a b n .count < 2 ^ 32
-          small Several l = omega arith
-          small Pairs l = omega arith
-          small Sparse l = omega arith
-          small User l = omega arith
+          small : (i : Inside) → n < 2 ^ 31 → CountedNest (nestIn i (s .first) (s .second) a b n)
+          small Several l = (omega arith, refl)
+          small Pairs l = (omega arith, refl)
+          small Sparse l = (omega arith, refl)
+          small User l = (omega arith, refl)

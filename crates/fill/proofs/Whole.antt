@@ -16,6 +16,7 @@ use Rattle.format.specs.Writing.{Table}
 use Rattle.laws.proofs.Rows.{alone-spelt}
 use Rattle.decide.specs.declared.Form.the-variants.{Whole}
 use Rattle.decide.specs.declared.Nest.{Nest}
+use Rattle.fill.specs.Rows.{CountedNest}
 use Rattle.fill.specs.declared.Step.{Step}
 use Rattle.columns.specs.Columns.{columns, Roomy, putRow, cleared, Blank, puts, Filled}
 use Rattle.fill.specs.Numbers.{Begins}
@@ -56,5 +57,5 @@ module _ (lim : ℕ) (first second : List ℤ) (below : List ℕ) {ty number fir
         (filled-in (subst (λ (y : Nest). FilledElements o lim row y lim 0 d (columns ty own label number first₁ second₁ place below₁ start end) r t') e f) dd z room (cleared-blank lim first second below p q s) v k o-is l);
   }
 
-pub one-count : {n : Nest} → n ≡ nestWith false false Whole Whole 1 → n .count < 2 ^ 32
-one-count q = rw q (omega arith)
+pub one-count : {n : Nest} → n ≡ nestWith false false Whole Whole 1 → CountedNest n
+one-count q = rw q (omega arith, refl)

@@ -18,7 +18,7 @@ use Rattle.scalar.specs.declared.Bits.the-variants.{Bits32}
 use Rattle.decide.specs.declared.Form.the-variants.{Whole, Named, Packed}
 use Rattle.decide.specs.declared.Nest.{Nest}
 use Rattle.decide.specs.declared.Inside.the-variants.{List as Several, Pairs, Sparse, User}
-use Rattle.decide.specs.Forms.{says, Sound, OfType, nestWith, nestIn}
+use Rattle.decide.specs.Forms.{says, Sound, OfType, listedIn, nestWith, nestIn}
 use Rattle.fill.specs.declared.Numbered.{Numbered}
 use Rattle.fill.specs.declared.Numbered.the-variants.{Number, Missing}
 use Rattle.fill.specs.declared.Fore.{Fore}
@@ -83,9 +83,13 @@ dataWith (parts d) f n = Holder f n
 abbrev pub pastFore : List ℕ → ℕ → Fore → Type 0
 pastFore o at f = (at ≤ f .end) × (f .end ≤ length o) × (f .place ≤ length o)
 
+-- 32 bits hold how many values there are, and as many stand by position as it says
+abbrev pub CountedNest : Nest → Type 0
+CountedNest n = (n .count < 2 ^ 32) × (n .listed ≡ listedIn (n .indexed) (n .count))
+
 abbrev pub pastData : List ℕ → ℕ → Data → Type 0
 pastData o at (Leaf f) = pastFore o at f × (f .first ≡ pos 0) × (f .second ≡ pos 0)
-pastData o at (Holder f n) = pastFore o at f × (n .count < 2 ^ 32)
+pastData o at (Holder f n) = pastFore o at f × CountedNest n
 pastData o at Unread = Unit {0}
 
 -- the data of a value of a kind
@@ -118,7 +122,7 @@ foundBy (parts d) r n = HolderRow r n
 
 abbrev pub pastFound : List ℕ → ℕ → Found → Type 0
 pastFound o at (LeafRow r) = (at ≤ r .end) × (r .end ≤ length o) × Single r
-pastFound o at (HolderRow r n) = (at ≤ r .end) × (r .end ≤ length o) × (n .count < 2 ^ 32)
+pastFound o at (HolderRow r n) = (at ≤ r .end) × (r .end ≤ length o) × CountedNest n
 pastFound o at NoRow = Unit {0}
 
 pub record RowAt (o : List ℕ) (form : Form) (i at : ℕ) (r : Found) : Type 0 where

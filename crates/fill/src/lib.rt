@@ -10,7 +10,7 @@ ghost use Rattle.scalar.specs.Moments.{partsOf};
 ghost use Rattle.decide.specs.Classes.{holdsOf, textOf};
 ghost use Rattle.columns.specs.Columns.{columns};
 ghost use Rattle.fill.specs.Numbers.{NumberAt, Implied};
-ghost use Rattle.fill.specs.Rows.{foreWith, leafOf, DataAt, DataOf, rowWith, RowAt};
+ghost use Rattle.fill.specs.Rows.{foreWith, leafOf, CountedNest, DataAt, DataOf, rowWith, RowAt};
 ghost use Rattle.fill.specs.Filling.{closed, Ready, FilledValue, FilledElements, FilledIn};
 use decide::Amount;
 use decide::Class;
@@ -386,7 +386,7 @@ fn fill_elements(
     base: usize,
     depth: usize,
 ) -> Step
-    requires { ⌜ Ready (now src) lim (row .end) base (columns (now ty) (now own) (now label) (now number) (now first) (now second) (now place) (now below) (now start) (now end)) × (nest .count < 2 ^ 32) ⌝ }
+    requires { ⌜ Ready (now src) lim (row .end) base (columns (now ty) (now own) (now label) (now number) (now first) (now second) (now place) (now below) (now start) (now end)) × CountedNest nest ⌝ }
     ensures { λ r. ⌜ FilledElements (now (src .entry)) lim row nest k base depth (columns (now (ty .entry)) (now (own .entry)) (now (label .entry)) (now (number .entry)) (now (first .entry)) (now (second .entry)) (now (place .entry)) (now (below .entry)) (now (start .entry)) (now (end .entry))) r (columns (now (ty .exit)) (now (own .exit)) (now (label .exit)) (now (number .exit)) (now (first .exit)) (now (second .exit)) (now (place .exit)) (now (below .exit)) (now (start .exit)) (now (end .exit))) ⌝ }
 {
     let indexed = nest.indexed;
@@ -394,12 +394,13 @@ fn fill_elements(
     let form = nest.form;
     let other = nest.other;
     let count = nest.count;
+    let listed = nest.listed;
     let from = row.end;
     let mut at = from as usize;
     let mut low: u32 = 0;
     let mut rows = base;
     loop {
-        match decide::next_at(src, indexed, paired, count, low, at) {
+        match decide::next_at(src, listed, indexed, paired, count, low, at) {
             Next::Halt(_) => return Step::Unread,
             Next::End(next) => {
                 columns::put_row(

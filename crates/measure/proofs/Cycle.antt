@@ -5,7 +5,7 @@ use mathlib.Core.List.{List}
 use Prim.Native.Nat.{ℕ, suc, _+_, _-_, _*_, _%_, _^_, _<_, _≤_}
 use native.Mathlib.Omega.{arith}
 use lib.ListN.{length}
-use lib.Dec.{eqb}
+use lib.Dec.{eqb, ltb}
 use lib.IntN.{ℤ}
 use lib.Signed.{mag}
 use mir.Syntax.{w32}
@@ -14,8 +14,16 @@ use Rattle.integer.proofs.Signs.{held}
 use Rattle.reading.specs.declared.Refusal.{Refusal}
 use Rattle.reading.specs.Reading.{Env, State, Out, got, stop, refusal, Reader, stand, follow, _>>=_, return, require, refuse, names, rename}
 use Rattle.format.specs.Types.{Names, silent, refers, Kind, kindOf}
-use Rattle.format.specs.Values.{Rule, Inner, may, begun, closed, leave, each, dataOf}
+use Rattle.format.specs.Data.{run as octets}
+use Rattle.format.specs.Values.{Rule, Inner, label, may, begun, closed, leave, each, dataOf}
 use Rattle.format.specs.Values.{Form as Forms}
+use Rattle.integer.specs.Packed.{integer}
+use Rattle.scalar.specs.declared.Bits.{Bits}
+use Rattle.scalar.specs.declared.Passed.{Passed}
+use Rattle.scalar.specs.declared.Passed.the-variants.{Past, Refused as Denied}
+use Rattle.scalar.specs.declared.Ran.{Ran}
+use Rattle.scalar.specs.declared.Ran.the-variants.{Onto, Halted}
+use Rattle.scalar.specs.Answers.{widthOf, mostOf, Passes, Ahead, RanIs, Runs}
 use Rattle.decide.specs.declared.Class.{Class}
 use Rattle.decide.specs.declared.Class.the-variants.{Refused, Small, Int, Fixed, Char, Holder, Identity, Reference}
 use Rattle.decide.specs.declared.Class.the-variants.{Text as Texted, Parts as Parted}
@@ -25,8 +33,13 @@ use Rattle.decide.specs.declared.Typed.the-variants.{Standing as Typing, Untype
 use Rattle.decide.specs.declared.Next.{Next}
 use Rattle.decide.specs.declared.Next.the-variants.{Value, End, Halt}
 use Rattle.decide.specs.Classes.{Is, ClassOf}
-use Rattle.decide.specs.Forms.{ownOf, TypedAt, turn}
-use Rattle.decide.specs.Coming.{nextLow, nextOut, pastNext, NextAt}
+use Rattle.decide.specs.Forms.{ownOf, TypedAt, listedIn, turn}
+use Rattle.decide.specs.Coming.{Coming, halt, ends, go, nextLow, nextOut, pastNext, NextAt}
+use Rattle.decide.specs.declared.Run.{Run}
+use Rattle.decide.specs.declared.Run.the-variants.{Mixed, Octets, Integers}
+use Rattle.decide.specs.Runs.{Like, RunIn}
+use Rattle.decide.proofs.Forms.{class-sized, class-packed}
+use Rattle.decide.proofs.Runs.{like-turn}
 use Rattle.measure.specs.declared.Contents.{Contents}
 use Rattle.measure.specs.declared.Plan.{Plan}
 use Rattle.measure.specs.declared.Plan.the-variants.{Refuse, Single, Inner as Nested}
@@ -34,10 +47,12 @@ use Rattle.measure.specs.declared.Step.{Step}
 use Rattle.measure.specs.declared.Step.the-variants.{On, Stop}
 use Rattle.measure.specs.Tally.{plus, valueRows, childRows, opening, inside, onward, rest}
 use Rattle.measure.specs.Identities.{given, ended, envOf, nameOf, one, Ids, Begun, Closed}
-use Rattle.measure.specs.Plans.{onceOf, Stands, judged, NestIs, PlanIs, ValuePlan}
-use Rattle.measure.specs.Cycle.{TooDeep, DeepAt, stepOut, Going, CanRead, HasRead, Standing, CanHold, HasHeld}
+use Rattle.measure.specs.Plans.{onceOf, Stands, judged, NestIs, PlanIs, planOf, ValuePlan}
+use Rattle.measure.specs.Cycle.{TooDeep, DeepAt, stepOut, Going, CanRead, HasRead, AheadIn, AheadOf, CanReadNext, HasReadNext, Standing, CanHold, HasHeld}
 use Rattle.measure.proofs.Counts.{countComing, rest-coming}
 use Rattle.measure.proofs.Heads.{headed, odd}
+use Rattle.measure.proofs.Plans.{int-plan, fixed-plan}
+use Rattle.measure.proofs.Values.{value-classed}
 
 -- ---- level 17
 
@@ -168,6 +183,7 @@ module _ (o l : List ℕ) (w : Form) (at rows depth : ℕ) where
         room = k .room;
         short = can .short;
         small = k .few;
+        by-position = k .by-position;
         forms = (k .form-is, k .other-is, record { first = k .form-stands; second = k .other-stands; alike = k .one-form });
       }
 
@@ -183,6 +199,67 @@ module _ (o l : List ℕ) (w : Form) (at rows depth : ℕ) where
             ∙ sym (same-plus rows (valueRows (each (dataOf (suc (depth - 1))) f)) _ (k .counted (depth - 1)) ∙ sym (same-plus rows (inside (dataOf (depth - 1)) _ (n .id) _ 1) _ refl));
         going = going-on r after (nest-of (can .stands .0) (can .stands .1) .further) (held .going);
       }
+
+-- ---- the value reader, by what the run says
+
+-- a value of a run is passed as its data are
+module _ {o l : List ℕ} {at : ℕ} {w : Form} (h : at ≤ length o) where
+  octets-plan : {n : ℕ} {p : Passed} → Like (Octets n) w → Passes n o at (octets n) p → ValuePlan o l w at (planOf p)
+  octets-plan k q = value-classed h (class-sized (k .1) h) refl refl (fixed-plan q refl)
+
+  integers-plan : {b : Bits} {most : ℕ} {p : Passed} → Like (Integers b most) w → Passes 1 o at (integer (widthOf b)) p → ValuePlan o l w at (planOf p)
+  integers-plan k q = value-classed h (class-packed (k .1 .1) h) refl refl (int-plan q refl)
+
+-- in other runs nothing is to be known
+ahead-mixed : (o : List ℕ) (near far : ℕ) {run : Run} → run ≡ Mixed → (r : Step) → AheadOf run o r near far
+ahead-mixed o near far e (On next k) = rw e tt
+ahead-mixed o near far e (Stop r) = tt
+
+module _ {o l : List ℕ} {run : Run} {w : Form} {at near far rows depth : ℕ} (can : CanReadNext o l run w at near far rows) (some : 0 < depth) where
+  module _ {b : Bits} {most : ℕ} (e : run ≡ Integers b most) {a : Ran} (ran : Runs b o at a) where
+    like-integers : Like (Integers b most) w
+    like-integers = subst (λ (x : Run). Like x w) e (can .like)
+
+    pub ran-onto : {next near' far' : ℕ} → a ≡ Onto next near' far' → HasReadNext o l run w at rows depth (On next (rows + 1)) l near' far'
+    ran-onto {next} {near'} {far'} q = let k = subst (RanIs b o at) q (ran .is) in record {
+      read = value-single o l w at rows depth (integers-plan (can .can .within) {p = Past next} like-integers (k .0)) some refl (can .can);
+      ahead = rw e (k .1);
+    }
+
+    pub ran-halted : {r : Refusal} {near' far' : ℕ} → a ≡ Halted r → HasReadNext o l run w at rows depth (Stop r) l near' far'
+    ran-halted {r} q = record { read = value-refused o l w at rows depth (integers-plan (can .can .within) {p = Denied r} like-integers (subst (RanIs b o at) q (ran .is))) some refl; ahead = tt }
+
+  module _ {n : ℕ} (e : run ≡ Octets n) {p : Passed} (passes : Passes n o at (octets n) p) where
+    octets-are : ValuePlan o l w at (planOf p)
+    octets-are = octets-plan (can .can .within) (subst (λ (x : Run). Like x w) e (can .like)) passes
+
+    pub octets-on : {next near' far' : ℕ} → p ≡ Past next → HasReadNext o l run w at rows depth (On next (rows + 1)) l near' far'
+    octets-on q = record { read = value-single o l w at rows depth octets-are some (ap planOf q) (can .can); ahead = rw e tt }
+
+    pub octets-stop : {r : Refusal} {near' far' : ℕ} → p ≡ Denied r → HasReadNext o l run w at rows depth (Stop r) l near' far'
+    octets-stop {r} q = record { read = value-refused o l w at rows depth octets-are some (ap planOf q); ahead = tt }
+
+-- what a run of integers says to their reader
+module _ {o l : List ℕ} {run : Run} {w : Form} {at near far rows : ℕ} {b : Bits} {most : ℕ} (can : CanReadNext o l run w at near far rows) (e : run ≡ Integers b most) where
+  pub run-most : most ≡ mostOf b
+  run-most = subst (λ (x : Run). Like x w) e (can .like) .0
+
+  pub run-ahead : Ahead o at near far
+  run-ahead = subst (λ (x : Run). AheadIn x o at near far) e (can .ahead)
+
+-- the form, as it was found by turns
+pub turned-deep : {o : List ℕ} {t w : Form} {at : ℕ} {r : Refusal} → t ≡ w → DeepAt o t at r → DeepAt o w at r
+turned-deep {o} {at = at} {r = r} e d = subst (λ (x : Form). DeepAt o x at r) e d
+
+pub turned-plan : {o l : List ℕ} {t w : Form} {at : ℕ} {p : Plan} → t ≡ w → ValuePlan o l t at p → ValuePlan o l w at p
+turned-plan {o} {l} {at = at} {p = p} e d = subst (λ (x : Form). ValuePlan o l x at p) e d
+
+-- a value that is in no run
+pub read-mixed : {o l : List ℕ} {run : Run} {w : Form} {at rows depth : ℕ} {r : Step} {after : List ℕ} {near far : ℕ} → run ≡ Mixed → HasRead o l w at rows depth r after → HasReadNext o l run w at rows depth r after near far
+read-mixed {o = o} {r = r} {near = near} {far = far} e h = record { read = h; ahead = ahead-mixed o near far e r }
+
+pub read-deep : {o l : List ℕ} {run : Run} {w : Form} {at rows depth : ℕ} {r : Refusal} {after : List ℕ} {near far : ℕ} → HasRead o l w at rows depth (Stop r) after → HasReadNext o l run w at rows depth (Stop r) after near far
+read-deep h = record { read = h; ahead = tt }
 
 -- ---- the container reader
 
@@ -272,6 +349,59 @@ module _ {o l₀ : List ℕ} {depth : ℕ} {x p : Bool} {count : ℕ} {w v : For
               short = turning .short;
               forms = turning .forms;
             }
+
+-- ---- what lies ahead
+
+-- values that stand by position come one after another
+next-here : {o : List ℕ} {p : Bool} {count low at next j k : ℕ} → Env → NextAt o false p count low at (Value next j k) → next ≡ at
+unfolding stand
+next-here {o} {p} {count} {low} {at} {next} {j} e h = ap place (h .same e) ∙ by (ltb low count)
+  where
+    place : Coming → ℕ
+    place (halt r) = 0
+    place (ends s) = s .at
+    place (go j s) = s .at
+
+    by : (b : Bool) → place (cond b (go (label p low) (stand o at e)) (ends (stand o at e))) ≡ at
+    by true = refl
+    by false = refl
+
+-- the loop, with what is known ahead in a run of integers
+pub record Looking (o l₀ : List ℕ) (depth : ℕ) (x p : Bool) (count : ℕ) (w v : Form) (at₀ rows₀ : ℕ) (l : List ℕ) (at low rows : ℕ) (run : Run) (n near far : ℕ) : Type 0 where
+  pub turning : Turning o l₀ depth x p count w v at₀ rows₀ l at low rows
+  pub runs : RunIn x w v run
+  pub by-position : n ≡ listedIn x count
+  pub ahead : AheadIn run o at near far
+
+ahead-none : (run : Run) (o : List ℕ) (at far : ℕ) → AheadIn run o at 0 far
+ahead-none Mixed o at far = tt
+ahead-none (Octets n) o at far = tt
+ahead-none (Integers w most) o at far = record { known = λ ne. absurd (ne refl) }
+
+pub looking-first : {o l l₀ : List ℕ} {n : Contents} {before depth : ℕ} {run : Run} → CanHold o l n before → Begun l (n .named) (n .id) l₀ → RunIn (n .nest .indexed) (n .nest .form) (n .nest .other) run
+    → Looking o l₀ depth (n .nest .indexed) (n .nest .paired) (n .nest .count) (n .nest .form) (n .nest .other) (n .from) before l₀ (n .from) 0 before run (n .nest .listed) 0 0
+looking-first {o = o} {n = n} {run = run} can b r = record { turning = turning-first can b; runs = r; by-position = can .by-position; ahead = ahead-none run o (n .from) 0 }
+
+module _ {o l₀ : List ℕ} {depth : ℕ} {x p : Bool} {count : ℕ} {w v : Form} {at₀ rows₀ : ℕ} {l : List ℕ} {at low rows : ℕ} {run : Run} {n near far : ℕ}
+    (looking : Looking o l₀ depth x p count w v at₀ rows₀ l at low rows run n near far) {g : Next} (comes : NextAt o x p count low at g) {next j low' : ℕ} (e : g ≡ Value next j low') where
+  ahead-there : AheadIn run o next near far
+  ahead-there = by x refl run (looking .runs .mixed) (looking .ahead)
+    where
+      by : (y : Bool) → x ≡ y → (r : Run) → (x ≡ true → r ≡ Mixed) → AheadIn r o at near far → AheadIn r o next near far
+      by true i r m h = rw (m i) tt
+      by false i r m h = rw (next-here (envOf l) (subst (λ (y : Bool). NextAt o y p count low at (Value next j low')) i (subst (NextAt o x p count low at) e comes))) h
+
+  pub looking-can-read : CanReadNext o l run (turn w v low) next near far rows
+  looking-can-read = record { can = turning-can-read (looking .turning) comes e refl; like = like-turn low (looking .runs .run); ahead = ahead-there }
+
+  pub looking-again : {r : Step} {after : List ℕ} {near' far' there more : ℕ} → HasReadNext o l run (turn w v low) next rows depth r after near' far' → r ≡ On there more
+      → Looking o l₀ depth x p count w v at₀ rows₀ after there low' more run n near' far'
+  looking-again {near' = near'} {far' = far'} read d = record {
+    turning = turning-again (looking .turning) comes e refl (read .read) d;
+    runs = looking .runs;
+    by-position = looking .by-position;
+    ahead = subst (λ (y : Step). AheadOf run o y near' far') d (read .ahead);
+  }
 
 -- ---- the container's end
 

@@ -50,6 +50,7 @@ first-can-hold {o} {l} {at} q h s f = rw q record {
   room = omega (arith, f .no-given);
   short = s;
   small = omega arith;
+  by-position = refl;
   forms = (whole false, whole false, whole-forms);
 }
 

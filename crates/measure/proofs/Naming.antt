@@ -80,6 +80,7 @@ module _ (o l : List ℕ) (at p : ℕ) where
         other-stands = record { means = (refl, refl); sound = tt };
         one-form = tt;
         few = omega arith;
+        by-position = refl;
         further = omega (arith, q .0);
         within = q .1;
         room = omega arith;

@@ -58,6 +58,7 @@ module _ (o l : List ℕ) (at t-own from n : ℕ) (t a b : ℤ) (f g : Bool) (ro
     other-stands = stands-formed f a a-good;
     one-form = tt;
     few = omega arith;
+    by-position = refl;
     further = further;
     within = within;
     room = omega (arith, good .few);
@@ -70,6 +71,7 @@ module _ (o l : List ℕ) (at t-own from n : ℕ) (t a b : ℤ) (f g : Bool) (ro
     other-stands = stands-formed g b b-good;
     one-form = tt;
     few = omega arith;
+    by-position = refl;
     further = further;
     within = within;
     room = omega (arith, good .few);
@@ -82,6 +84,7 @@ module _ (o l : List ℕ) (at t-own from n : ℕ) (t a b : ℤ) (f g : Bool) (ro
     other-stands = stands-formed f a a-good;
     one-form = refl;
     few = omega arith;
+    by-position = refl;
     further = further;
     within = within;
     room = omega (arith, good .few);
@@ -94,6 +97,7 @@ module _ (o l : List ℕ) (at t-own from n : ℕ) (t a b : ℤ) (f g : Bool) (ro
     other-stands = record { means = (refl, refl); sound = tt };
     one-form = refl;
     few = omega arith;
+    by-position = refl;
     further = further;
     within = within;
     room = omega (arith, good .few);

@@ -74,6 +74,7 @@ plan-as o l a b rows more (Nested n) h e p = record {
   other-stands = p .other-stands;
   one-form = p .one-form;
   few = p .few;
+  by-position = p .by-position;
   further = omega (arith, p .further);
   within = p .within;
   room = p .room;

@@ -12,6 +12,11 @@ use Rattle.format.specs.Values.{Form as Forms}
 use Rattle.decide.specs.declared.Class.{Class}
 use Rattle.decide.specs.Classes.{Is}
 use Rattle.decide.specs.declared.Form.{Form}
+use Rattle.decide.specs.declared.Run.{Run}
+use Rattle.decide.specs.declared.Run.the-variants.{Mixed, Octets, Integers}
+use Rattle.decide.specs.Forms.{listedIn}
+use Rattle.decide.specs.Runs.{Like}
+use Rattle.scalar.specs.Answers.{Ahead}
 use Rattle.measure.specs.declared.Contents.{Contents}
 use Rattle.measure.specs.declared.Step.{Step}
 use Rattle.measure.specs.declared.Step.the-variants.{On, Stop}
@@ -49,6 +54,26 @@ pub record HasRead (o l : List ℕ) (w : Form) (at rows depth : ℕ) (r : Step) 
   pub same : (f : Forms) → Stands w f → stepOut o (envOf after) r ≡ plus rows (valueRows (each (dataOf depth) f)) (stand o at (envOf l))
   pub going : Going o l after (at + 1) r
 
+-- in a run of integers, what lies ahead is known
+abbrev pub AheadIn : Run → List ℕ → ℕ → ℕ → ℕ → Type 0
+AheadIn Mixed o at near far = Unit {0}
+AheadIn (Octets n) o at near far = Unit {0}
+AheadIn (Integers w most) o at near far = Ahead o at near far
+
+abbrev pub AheadOf : Run → List ℕ → Step → ℕ → ℕ → Type 0
+AheadOf run o (On next rows) near far = AheadIn run o next near far
+AheadOf run o (Stop r) near far = Unit {0}
+
+-- the next value of a container: the run is right about it, and what lies ahead is known before and after
+pub record CanReadNext (o l : List ℕ) (run : Run) (w : Form) (at near far rows : ℕ) : Type 0 where
+  pub can : CanRead o l w at rows
+  pub like : Like run w
+  pub ahead : AheadIn run o at near far
+
+pub record HasReadNext (o l : List ℕ) (run : Run) (w : Form) (at rows depth : ℕ) (r : Step) (after : List ℕ) (near far : ℕ) : Type 0 where
+  pub read : HasRead o l w at rows depth r after
+  pub ahead : AheadOf run o r near far
+
 -- ---- the values inside a container
 
 pub record Standing (w v : Form) (x : Bool) (f g : Forms) : Type 0 where
@@ -63,6 +88,7 @@ pub record CanHold (o l : List ℕ) (n : Contents) (before : ℕ) : Type 0 where
   pub room : given l + one (n .named) ≤ 64
   pub short : length o ≤ 65535
   pub small : n .nest .count < 2 ^ 32
+  pub by-position : n .nest .listed ≡ listedIn (n .nest .indexed) (n .nest .count)
   pub forms : (f : Forms) × (g : Forms) × Standing (n .nest .form) (n .nest .other) (n .nest .indexed) f g
 
 pub record HasHeld (o l : List ℕ) (n : Contents) (before depth : ℕ) (r : Step) (after : List ℕ) : Type 0 where

@@ -20,7 +20,7 @@ use Rattle.decide.specs.declared.Form.{Form}
 use Rattle.decide.specs.declared.Form.the-variants.{Whole, Named, Bare, Sized, Packed}
 use Rattle.decide.specs.declared.Nest.{Nest}
 use Rattle.decide.specs.Classes.{Is, leastOf, elementary}
-use Rattle.decide.specs.Forms.{unknown, known, says, Sound}
+use Rattle.decide.specs.Forms.{unknown, known, says, Sound, listedIn}
 use Rattle.measure.specs.declared.Contents.{Contents}
 use Rattle.measure.specs.declared.Plan.{Plan}
 use Rattle.measure.specs.declared.Plan.the-variants.{Refuse, Single, Inner as Nested}
@@ -64,6 +64,7 @@ pub record NestIs (o : List ℕ) (l : List ℕ) (at : ℕ) (n : Contents) (rows 
   pub other-stands : Stands (n .nest .other) other-is
   pub one-form : OneForm (n .nest .indexed) form-is other-is
   pub few : n .nest .count < 2 ^ 32
+  pub by-position : n .nest .listed ≡ listedIn (n .nest .indexed) (n .nest .count)
   pub further : at ≤ n .from
   pub within : n .from ≤ length o
   pub room : given l + one (n .named) ≤ 64

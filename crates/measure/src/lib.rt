@@ -4,8 +4,9 @@ ghost use lib.ListN.{length};
 ghost use Rattle.format.specs.Values.{has};
 ghost use Rattle.measure.specs.Identities.{listed, given, ended, one, Ids, Begun, Closed};
 ghost use Rattle.decide.specs.declared.Class.the-variants.{Identity};
+ghost use Rattle.decide.specs.Forms.{turn};
 ghost use Rattle.measure.specs.Plans.{planOf, TextPlan, HolderPlan, DataPlan, ReferencePlan, FewParts, momentPlan, onceOf, ValuePlan};
-ghost use Rattle.measure.specs.Cycle.{TooDeep, DeepAt, CanRead, HasRead, CanHold, HasHeld};
+ghost use Rattle.measure.specs.Cycle.{TooDeep, DeepAt, CanReadNext, HasReadNext, CanHold, HasHeld};
 ghost use Rattle.measure.specs.Entries.{FirstAt, Outermost, answerOf, rowsNeeded};
 ghost use Rattle.format.specs.Message.{measure as lengthOf};
 use decide::Amount;
@@ -15,11 +16,13 @@ use decide::Element;
 use decide::Form;
 use decide::Nest;
 use decide::Next;
+use decide::Run;
 use decide::Shape;
 use decide::Typed;
 use reading::Refusal;
 use scalar::Moment;
 use scalar::Passed;
+use scalar::Ran;
 
 // The values inside a container: the place of the first, what the container holds, and the number of the identity that it gives, if it gives one. As in
 // each plan, the place stands first.
@@ -108,7 +111,7 @@ fn text_plan(src: &[u8], at: usize, chars: bool) -> Plan
 {
     match decide::amount_at(src, at) {
         Amount::NoNumber(r) => Plan::Refuse(r),
-        Amount::Number(next, n) => passed(scalar::text_past(src, next, n as usize, chars)),
+        Amount::Number(next, n) => passed(scalar::text_past(&*src, next, n as usize, chars)),
     }
 }
 
@@ -281,18 +284,52 @@ fn too_deep(src: &[u8], form: Form, at: usize) -> Refusal
     }
 }
 
-// The value reader. Its only call is in `elements`.
-fn value(src: &[u8], ids: &mut [u32], form: Form, at: usize, rows: usize, depth: usize) -> Step
-    requires { ⌜ CanRead (now src) (now ids) form at rows ⌝ }
-    ensures { λ r. ⌜ HasRead (now (src .entry)) (now (ids .entry)) form at rows depth r (now (ids .exit)) ⌝ }
+// The value reader. Its only call is in `elements`. `near` and `far` tell what lies ahead in a run of integers; elsewhere they are 0.
+fn value(
+    src: &[u8],
+    ids: &mut [u32],
+    run: Run,
+    form: Form,
+    other: Form,
+    low: u32,
+    at: usize,
+    near: &mut u64,
+    far: &mut u64,
+    rows: usize,
+    depth: usize,
+) -> Step
+    requires { ⌜ CanReadNext (now src) (now ids) run (turn form other low) at (now near) (now far) rows ⌝ }
+    ensures { λ r. ⌜ HasReadNext (now (src .entry)) (now (ids .entry)) run (turn form other low) at rows depth r (now (ids .exit)) (now (near .exit)) (now (far .exit)) ⌝ }
 {
     if depth == 0 {
-        return Step::Stop(too_deep(src, form, at));
+        return Step::Stop(too_deep(src, decide::turn_of(form, other, low), at));
     }
-    match plan_at(src, ids, form, at) {
-        Plan::Refuse(r) => Step::Stop(r),
-        Plan::Single(next, n) => Step::On(next, rows + n as usize),
-        Plan::Inner(contents) => elements(src, ids, contents, rows + 1, depth - 1),
+    match run {
+        Run::Integers(w, most) => match scalar::int_ahead(src, at, w, most, *near, *far) {
+            Ran::Halted(r) => Step::Stop(r),
+            Ran::Onto(next, near2, far2) => {
+                *near = near2;
+                *far = far2;
+                Step::On(next, rows + 1)
+            }
+        },
+        Run::Octets(n) => {
+            *near = 0;
+            *far = 0;
+            match scalar::octets_past(src, at, n) {
+                Passed::Refused(r) => Step::Stop(r),
+                Passed::Past(next) => Step::On(next, rows + 1),
+            }
+        }
+        Run::Mixed => {
+            *near = 0;
+            *far = 0;
+            match plan_at(src, ids, decide::turn_of(form, other, low), at) {
+                Plan::Refuse(r) => Step::Stop(r),
+                Plan::Single(next, n) => Step::On(next, rows + n as usize),
+                Plan::Inner(contents) => elements(&*src, ids, contents, rows + 1, depth - 1),
+            }
+        }
     }
 }
 
@@ -304,25 +341,40 @@ fn elements(src: &[u8], ids: &mut [u32], contents: Contents, before: usize, dept
     let named = contents.named;
     let id = contents.id;
     let nest = contents.nest;
+    let listed = nest.listed;
     let indexed = nest.indexed;
     let paired = nest.paired;
     let count = nest.count;
     let form = nest.form;
     let other = nest.other;
+    let run = decide::run_in(indexed, form, other);
     let mut at = contents.from;
     let mut low: u32 = 0;
     let mut rows = before;
+    let mut near: u64 = 0;
+    let mut far: u64 = 0;
     open_id(ids, named, id);
     loop {
-        match decide::next_at(src, indexed, paired, count, low, at) {
+        match decide::next_at(src, listed, indexed, paired, count, low, at) {
             Next::Halt(r) => return Step::Stop(r),
             Next::End(next) => {
                 end_id(ids, named, id);
                 return Step::On(next, rows);
             }
             Next::Value(next, _, after) => {
-                let turn = decide::turn_of(form, other, low);
-                match value(src, ids, turn, next, rows, depth) {
+                match value(
+                    src,
+                    ids,
+                    run,
+                    form,
+                    other,
+                    low,
+                    next,
+                    &mut near,
+                    &mut far,
+                    rows,
+                    depth,
+                ) {
                     Step::Stop(r) => return Step::Stop(r),
                     Step::On(there, rows2) => {
                         at = there;

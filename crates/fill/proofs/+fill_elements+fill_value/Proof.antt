@@ -55,11 +55,11 @@ fill-value-below t =
     and 11 fill-value-kinds.ps (falls 11 fill-value-kinds.ps _<_ μ-fill-value t) fill-value.Pre
 
 abbrev fill-elements-Inv-loop : fill-elements-lts.InvT-loop
-fill-elements-Inv-loop src ty₀ own₀ label₀ number₀ first₀ second₀ place₀ below₀ start₀ end₀ lim row k base depth indexed paired form other count from at₀ low₀ rows₀ ty own label number first second place below start end at low rows =
-    Turn src lim depth (record { count = count; form = form; other = other; indexed = indexed; paired = paired }) from base (columns ty₀ own₀ label₀ number₀ first₀ second₀ place₀ below₀ start₀ end₀) at low rows (columns ty own label number first second place below start end)
+fill-elements-Inv-loop src ty₀ own₀ label₀ number₀ first₀ second₀ place₀ below₀ start₀ end₀ lim row k base depth indexed paired form other count listed from at₀ low₀ rows₀ ty own label number first second place below start end at low rows =
+    Turn src lim depth (record { count = count; listed = listed; form = form; other = other; indexed = indexed; paired = paired }) from base (columns ty₀ own₀ label₀ number₀ first₀ second₀ place₀ below₀ start₀ end₀) at low rows (columns ty own label number first second place below start end)
 
 abbrev fill-elements-μ-loop : fill-elements-lts.MeasureT-loop
-fill-elements-μ-loop src ty₀ own₀ label₀ number₀ first₀ second₀ place₀ below₀ start₀ end₀ lim row k base depth indexed paired form other count from at₀ low₀ rows₀ ty own label number first second place below start end at low rows =
+fill-elements-μ-loop src ty₀ own₀ label₀ number₀ first₀ second₀ place₀ below₀ start₀ end₀ lim row k base depth indexed paired form other count listed from at₀ low₀ rows₀ ty own label number first second place below start end at low rows =
     count - low
 
 abbrev fill-elements-claims : ℕ → fill-elements-lts.Claims
@@ -75,7 +75,7 @@ fill-elements-loop-holds : (t : ℕ) → fill-elements-lts.Need-loop-holds (fill
 fill-elements-loop-holds t c = turn-first (c .before .before .before .before .before .before .before .pre .1 .0)
 
 fill-elements-next-at-requires : (t : ℕ) → fill-elements-lts.Need-next-at-requires (fill-elements-claims t) (fill-elements-at t) fill-elements.Post fill-elements-Inv-loop fill-elements-μ-loop
-fill-elements-next-at-requires t c κs = (c .loop .inv .inside, c .before .before .before .before .before .before .before .before .pre .1 .1)
+fill-elements-next-at-requires t c κs = (c .loop .inv .inside, c .before .before .before .before .before .before .before .before .pre .1 .1 .0, c .before .before .before .before .before .before .before .before .pre .1 .1 .1)
 
 fill-elements-enum-told : (t : ℕ) → fill-elements-lts.Need-enum-told (fill-elements-claims t) (fill-elements-at t) fill-elements.Post fill-elements-Inv-loop fill-elements-μ-loop
 fill-elements-enum-told t c = c .match .keys1
