@@ -28,9 +28,6 @@ little-join (suc n) m o at =
     let there : at + 1 + n ≡ at + suc n = omega arith in
     rw (little-join n m o (at + 1), there, pow-suc 256 n, mul-comm (256 ^ n) 256, mul-assoc 256 (256 ^ n) (little m o (at + suc n))) (omega arith)
 
-pub little-eight : (o : List ℕ) (at : ℕ) {x y : ℕ} → x ≡ little 4 o at → y ≡ little 4 o (at + 4) → x + 4294967296 * y ≡ little 8 o at
-little-eight o at e f = rw (e, f) (sym (little-join 4 4 o at))
-
 pub little-four : (o : List ℕ) (at : ℕ) {a b c d : ℕ} → a ≡ getD o at 0 → b ≡ getD o (at + 1) 0 → c ≡ getD o (at + 2) 0 → d ≡ getD o (at + 3) 0
     → a + 256 * b + 65536 * c + 16777216 * d ≡ little 4 o at
 unfolding little
@@ -38,6 +35,17 @@ little-four o at ea eb ec ed =
     let two : at + 1 + 1 ≡ at + 2 = omega arith in
     let three : at + 2 + 1 ≡ at + 3 = omega arith in
     rw (ea, eb, ec, ed, two, three) (omega arith)
+
+-- by the first four, and the others one by one
+pub little-eight : (o : List ℕ) (at : ℕ) {x a b c d : ℕ} → x ≡ little 4 o at → a ≡ getD o (at + 4) 0 → b ≡ getD o (at + 5) 0 → c ≡ getD o (at + 6) 0 → d ≡ getD o (at + 7) 0
+    → x + 4294967296 * a + 1099511627776 * b + 281474976710656 * c + 72057594037927936 * d ≡ little 8 o at
+little-eight o at {x} {a} {b} {c} {d} e ea eb ec ed =
+    let five : at + 4 + 1 ≡ at + 5 = omega arith in
+    let six : at + 4 + 2 ≡ at + 6 = omega arith in
+    let seven : at + 4 + 3 ≡ at + 7 = omega arith in
+    let f : a + 256 * b + 65536 * c + 16777216 * d ≡ little 4 o (at + 4) = little-four o (at + 4) ea (rw five eb) (rw six ec) (rw seven ed) in
+    let whole : x + 4294967296 * (a + 256 * b + 65536 * c + 16777216 * d) ≡ little 8 o at = rw (e, f) (sym (little-join 4 4 o at)) in
+    omega (arith, whole)
 
 -- ---- the ends
 

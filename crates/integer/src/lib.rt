@@ -30,12 +30,17 @@ fn half_at(src: &[u8], at: usize) -> u64
     a + 256 * b + 65536 * c + 16777216 * d
 }
 
-// Eight octets from a place on as one number, the first lowest. One load when compiled, or two.
+// Eight octets from a place on as one number, the first lowest. Added one by one to the first four, they are one load when compiled.
 fn word_at(src: &[u8], at: usize) -> u64
     requires { ⌜ at + 8 ≤ length (now src) ⌝ }
     ensures { λ r. ⌜ r ≡ little 8 (now (src .entry)) at ⌝ }
 {
-    half_at(src, at) + 4294967296 * half_at(src, at + 4)
+    let half = half_at(src, at);
+    let e = wide(src[at + 4]);
+    let f = wide(src[at + 5]);
+    let g = wide(src[at + 6]);
+    let h = wide(src[at + 7]);
+    half + 4294967296 * e + 1099511627776 * f + 281474976710656 * g + 72057594037927936 * h
 }
 
 // 128 in the place of each of a word's octets that isn't continued, 0 in the places of the others.
