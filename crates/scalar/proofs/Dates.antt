@@ -1,21 +1,21 @@
 -- The ranges of dates and times, as code tests them.
 use mathlib.Core.Path.{_≡_, refl, sym, ap₂, _∙_}
-use mathlib.Core.Bool.{Bool, true, false, _&&_, _||_}
+use mathlib.Core.Bool.{Bool, true, false, cond, _&&_, _||_}
 use mathlib.Core.List.{[], _∷_}
 use mathlib.Core.Logic.{_⊎_, inl, inr}
 use Prim.Native.Nat.{ℕ, _%_, _≤_}
 use native.Mathlib.Omega.{arith}
-use lib.Dec.{eqb}
+use lib.Dec.{eqb, leb}
 use lib.IntN.{ℤ, pos, negsuc, natAbs}
 use lib.Signed.{mag}
-use borrow.Author.Tests.{eq-eqb, ne-eqb}
+use borrow.Author.Tests.{eq-eqb, ne-eqb, leb-true, le-leb}
 use mir.Syntax.{w32}
 use mir.Val.{SFits, toZ}
 use mir.ValLaws.{toZ-ofZ, toZ-pos}
 use Rattle.format.specs.Data.{within, leap, days, dateFits}
 use Rattle.scalar.specs.Moments.{clockFits}
 use Rattle.scalar.proofs.Signed.{held}
-use Rattle.scalar.proofs.Tests.{no}
+use Rattle.scalar.proofs.Tests.{no, and-split}
 
 pub leap-not : (y : ℕ) → (y % 4 ≡ 0 → ⊥) → false ≡ leap y
 leap-not y h = sym (rw (ne-eqb (y % 4) 0 h, ne-eqb (y % 400) 0 (λ e. h (omega arith))))
@@ -60,6 +60,20 @@ pub upward-one : (high : ℕ) (z : ℤ) → within (pos 1) (pos high) z ≡ true
 upward-one high (pos n) e = refl
 upward-one high (negsuc n) e = absurd (no e)
 
+-- every month has 28 days
+days-least : (y m : ℕ) → 28 ≤ days y m
+days-least y m = by (eqb m 2) (leap y) (eqb m 4 || eqb m 6 || eqb m 9 || eqb m 11)
+  where
+    by : (t u v : Bool) → 28 ≤ cond t (cond u 29 28) (cond v 30 31)
+    by true true v = omega arith
+    by true false v = omega arith
+    by false u true = omega arith
+    by false u false = omega arith
+
+within-more : (few more : ℕ) (z : ℤ) → few ≤ more → within (pos 1) (pos few) z ≡ true → within (pos 1) (pos more) z ≡ true
+within-more few more (pos n) h e = let b = and-split (leb 1 n) (leb n few) e in rw (b .0) (le-leb n more (omega (arith, h, leb-true n few (b .1))))
+within-more few more (negsuc n) h e = absurd (no e)
+
 module _ (y m d : ℤ) where
   pub date-year : within (pos 0) (pos 9999) y ≡ false → false ≡ dateFits (y ∷ m ∷ d ∷ [])
   date-year e = sym (rw e)
@@ -67,6 +81,9 @@ module _ (y m d : ℤ) where
   module _ (h : within (pos 0) (pos 9999) y ≡ true) where
     pub date-month : within (pos 1) (pos 12) m ≡ false → false ≡ dateFits (y ∷ m ∷ d ∷ [])
     date-month e = sym (rw (h, e))
+
+    pub date-early : within (pos 1) (pos 12) m ≡ true → within (pos 1) (pos 28) d ≡ true → true ≡ dateFits (y ∷ m ∷ d ∷ [])
+    date-early e f = sym (rw (h, e) (within-more 28 (days (mag y) (mag m)) d (days-least (mag y) (mag m)) f))
 
     pub date-day : {n : ℕ} {t : Bool} → within (pos 1) (pos 12) m ≡ true → SFits w32 y → SFits w32 m → SFits w32 d
         → n ≡ days (natAbs (held y)) (natAbs (held m)) → n ≤ 31 → t ≡ within (pos 1) (toZ w32 n) (held d) → t ≡ dateFits (y ∷ m ∷ d ∷ [])

@@ -589,6 +589,10 @@ fn date_fits(y: i32, m: i32, d: i32) -> bool
     if !between(m, 1, 12) {
         return false;
     }
+    // Every month has these, so most dates are settled without a look at the month.
+    if between(d, 1, 28) {
+        return true;
+    }
     between(d, 1, days_in(y as u32, m as u32) as i32)
 }
 
