@@ -10,11 +10,11 @@ use Rattle.scalar.specs.declared.Bits.{Bits}
 use Rattle.scalar.specs.declared.Bits.the-variants.{Bits16, Bits32, Bits64}
 use Rattle.scalar.specs.Answers.{mostOf}
 use Rattle.decide.specs.declared.Form.{Form}
-use Rattle.decide.specs.declared.Form.the-variants.{Sized, Packed}
+use Rattle.decide.specs.declared.Form.the-variants.{Packed}
 use Rattle.decide.specs.declared.Run.{Run}
-use Rattle.decide.specs.declared.Run.the-variants.{Mixed, Octets, Integers}
+use Rattle.decide.specs.declared.Run.the-variants.{Mixed, Integers}
 use Rattle.decide.specs.Forms.{turn}
-use Rattle.decide.specs.Runs.{octetsOf, integersOf, Like, RunOf, RunIn}
+use Rattle.decide.specs.Runs.{integersOf, Like, RunOf, RunIn}
 
 -- the number that tells which integers fit tells their width
 same-width : (w v : Bits) → mostOf w ≡ mostOf v → w ≡ v
@@ -39,13 +39,6 @@ run-mixed : {f g : Form} → RunOf f g Mixed
 run-mixed = record { first = tt; second = tt }
 
 module _ {f g : Form} {t u : ℤ} {r : Run} where
-  pub run-octets : {n m : ℕ} → f ≡ Sized n t → g ≡ Sized m u → r ≡ octetsOf n m → RunOf f g r
-  run-octets {n} {m} e h q = rw q (by (eqb n m) refl)
-    where
-      by : (b : Bool) → eqb n m ≡ b → RunOf f g (cond b (Octets n) Mixed)
-      by true p = record { first = (t, e); second = (u, h ∙ ap (λ (k : ℕ). Sized k u) (sym (eqb-true n m p))) }
-      by false p = run-mixed
-
   pub run-integers : {w v : Bits} → f ≡ Packed w t → g ≡ Packed v u → r ≡ integersOf w v → RunOf f g r
   run-integers {w} {v} e h q = rw q (by (eqb (mostOf w) (mostOf v)) refl)
     where

@@ -7,21 +7,17 @@ use lib.IntN.{ℤ}
 use Rattle.scalar.specs.declared.Bits.{Bits}
 use Rattle.scalar.specs.Answers.{mostOf}
 use Rattle.decide.specs.declared.Form.{Form}
-use Rattle.decide.specs.declared.Form.the-variants.{Sized, Packed}
+use Rattle.decide.specs.declared.Form.the-variants.{Packed}
 use Rattle.decide.specs.declared.Run.{Run}
-use Rattle.decide.specs.declared.Run.the-variants.{Mixed, Octets, Integers}
+use Rattle.decide.specs.declared.Run.the-variants.{Mixed, Integers}
 
--- where keys and values are of one size, or of one width
-abbrev pub octetsOf : ℕ → ℕ → Run
-octetsOf n m = cond (eqb n m) (Octets n) Mixed
-
+-- where keys and values are of one width
 abbrev pub integersOf : Bits → Bits → Run
 integersOf w v = cond (eqb (mostOf w) (mostOf v)) (Integers w (mostOf w)) Mixed
 
 -- a value in a form is what the run says
 abbrev pub Like : Run → Form → Type 0
 Like Mixed f = Unit {0}
-Like (Octets n) f = (t : ℤ) × (f ≡ Sized n t)
 Like (Integers w most) f = (most ≡ mostOf w) × ((t : ℤ) × (f ≡ Packed w t))
 
 pub record RunOf (form other : Form) (r : Run) : Type 0 where

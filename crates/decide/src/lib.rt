@@ -7,7 +7,7 @@ ghost use Rattle.decide.specs.Classes.{ClassOf, mayBeElement};
 ghost use Rattle.decide.specs.Elements.{AmountAt, ElementAt, TypeAt};
 ghost use Rattle.decide.specs.Forms.{ownOf, IdentifierAt, TypedAt, ClassAt, ClassIn, bareForm, formOf, listedIn, alikeNest, nestIn, turn};
 ghost use Rattle.decide.specs.Coming.{IndexNext, NextAt};
-ghost use Rattle.decide.specs.Runs.{octetsOf, integersOf, RunOf, RunIn};
+ghost use Rattle.decide.specs.Runs.{integersOf, RunOf, RunIn};
 use integer::Read32;
 use integer::Signed;
 use reading::Refusal;
@@ -416,20 +416,10 @@ pub fn turn_of(form: Form, other: Form, i: u32) -> Form
 
 // ---- Values that are alike ----
 
-// What all values of a container are: so many octets each; or integers of a width, with the number that tells which fit; or they are not known to be alike.
+// What all values of a container are: integers of a width, with the number that tells which fit; or they are not known to be.
 pub enum Run {
     Mixed,
-    Octets(usize),
     Integers(Bits, usize),
-}
-
-fn same_sizes(n: u8, m: u8) -> Run
-    ensures { λ r. ⌜ r ≡ octetsOf n m ⌝ }
-{
-    if n == m {
-        return Run::Octets(n as usize);
-    }
-    Run::Mixed
 }
 
 fn same_widths(w: Bits, v: Bits) -> Run
@@ -447,10 +437,6 @@ fn run_of(form: Form, other: Form) -> Run
     ensures { λ r. ⌜ RunOf form other r ⌝ }
 {
     match form {
-        Form::Sized(n, _) => match other {
-            Form::Sized(m, _) => same_sizes(n, m),
-            _ => Run::Mixed,
-        },
         Form::Packed(w, _) => match other {
             Form::Packed(v, _) => same_widths(w, v),
             _ => Run::Mixed,

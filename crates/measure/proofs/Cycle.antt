@@ -14,7 +14,6 @@ use Rattle.integer.proofs.Signs.{held}
 use Rattle.reading.specs.declared.Refusal.{Refusal}
 use Rattle.reading.specs.Reading.{Env, State, Out, got, stop, refusal, Reader, stand, follow, _>>=_, return, require, refuse, names, rename}
 use Rattle.format.specs.Types.{Names, silent, refers, Kind, kindOf}
-use Rattle.format.specs.Data.{run as octets}
 use Rattle.format.specs.Values.{Rule, Inner, label, may, begun, closed, leave, each, dataOf}
 use Rattle.format.specs.Values.{Form as Forms}
 use Rattle.integer.specs.Packed.{integer}
@@ -36,9 +35,9 @@ use Rattle.decide.specs.Classes.{Is, ClassOf}
 use Rattle.decide.specs.Forms.{ownOf, TypedAt, listedIn, turn}
 use Rattle.decide.specs.Coming.{Coming, halt, ends, go, nextLow, nextOut, pastNext, NextAt}
 use Rattle.decide.specs.declared.Run.{Run}
-use Rattle.decide.specs.declared.Run.the-variants.{Mixed, Octets, Integers}
+use Rattle.decide.specs.declared.Run.the-variants.{Mixed, Integers}
 use Rattle.decide.specs.Runs.{Like, RunIn}
-use Rattle.decide.proofs.Forms.{class-sized, class-packed}
+use Rattle.decide.proofs.Forms.{class-packed}
 use Rattle.decide.proofs.Runs.{like-turn}
 use Rattle.measure.specs.declared.Contents.{Contents}
 use Rattle.measure.specs.declared.Plan.{Plan}
@@ -51,7 +50,7 @@ use Rattle.measure.specs.Plans.{onceOf, Stands, judged, NestIs, PlanIs, 
 use Rattle.measure.specs.Cycle.{TooDeep, DeepAt, stepOut, Going, CanRead, HasRead, AheadIn, AheadOf, CanReadNext, HasReadNext, Standing, CanHold, HasHeld}
 use Rattle.measure.proofs.Counts.{countComing, rest-coming}
 use Rattle.measure.proofs.Heads.{headed, odd}
-use Rattle.measure.proofs.Plans.{int-plan, fixed-plan}
+use Rattle.measure.proofs.Plans.{int-plan}
 use Rattle.measure.proofs.Values.{value-classed}
 
 -- ---- level 17
@@ -204,9 +203,6 @@ module _ (o l : List ℕ) (w : Form) (at rows depth : ℕ) where
 
 -- a value of a run is passed as its data are
 module _ {o l : List ℕ} {at : ℕ} {w : Form} (h : at ≤ length o) where
-  octets-plan : {n : ℕ} {p : Passed} → Like (Octets n) w → Passes n o at (octets n) p → ValuePlan o l w at (planOf p)
-  octets-plan k q = value-classed h (class-sized (k .1) h) refl refl (fixed-plan q refl)
-
   integers-plan : {b : Bits} {most : ℕ} {p : Passed} → Like (Integers b most) w → Passes 1 o at (integer (widthOf b)) p → ValuePlan o l w at (planOf p)
   integers-plan k q = value-classed h (class-packed (k .1 .1) h) refl refl (int-plan q refl)
 
@@ -228,16 +224,6 @@ module _ {o l : List ℕ} {run : Run} {w : Form} {at near far rows depth : ℕ} 
 
     pub ran-halted : {r : Refusal} {near' far' : ℕ} → a ≡ Halted r → HasReadNext o l run w at rows depth (Stop r) l near' far'
     ran-halted {r} q = record { read = value-refused o l w at rows depth (integers-plan (can .can .within) {p = Denied r} like-integers (subst (RanIs b o at) q (ran .is))) some refl; ahead = tt }
-
-  module _ {n : ℕ} (e : run ≡ Octets n) {p : Passed} (passes : Passes n o at (octets n) p) where
-    octets-are : ValuePlan o l w at (planOf p)
-    octets-are = octets-plan (can .can .within) (subst (λ (x : Run). Like x w) e (can .like)) passes
-
-    pub octets-on : {next near' far' : ℕ} → p ≡ Past next → HasReadNext o l run w at rows depth (On next (rows + 1)) l near' far'
-    octets-on q = record { read = value-single o l w at rows depth octets-are some (ap planOf q) (can .can); ahead = rw e tt }
-
-    pub octets-stop : {r : Refusal} {near' far' : ℕ} → p ≡ Denied r → HasReadNext o l run w at rows depth (Stop r) l near' far'
-    octets-stop {r} q = record { read = value-refused o l w at rows depth octets-are some (ap planOf q); ahead = tt }
 
 -- what a run of integers says to their reader
 module _ {o l : List ℕ} {run : Run} {w : Form} {at near far rows : ℕ} {b : Bits} {most : ℕ} (can : CanReadNext o l run w at near far rows) (e : run ≡ Integers b most) where
@@ -375,7 +361,6 @@ pub record Looking (o l₀ : List ℕ) (depth : ℕ) (x p : Bool) (count : ℕ) 
 
 ahead-none : (run : Run) (o : List ℕ) (at far : ℕ) → AheadIn run o at 0 far
 ahead-none Mixed o at far = tt
-ahead-none (Octets n) o at far = tt
 ahead-none (Integers w most) o at far = record { known = λ ne. absurd (ne refl) }
 
 pub looking-first : {o l l₀ : List ℕ} {n : Contents} {before depth : ℕ} {run : Run} → CanHold o l n before → Begun l (n .named) (n .id) l₀ → RunIn (n .nest .indexed) (n .nest .form) (n .nest .other) run

@@ -13,7 +13,7 @@ use Rattle.decide.specs.declared.Class.{Class}
 use Rattle.decide.specs.Classes.{Is}
 use Rattle.decide.specs.declared.Form.{Form}
 use Rattle.decide.specs.declared.Run.{Run}
-use Rattle.decide.specs.declared.Run.the-variants.{Mixed, Octets, Integers}
+use Rattle.decide.specs.declared.Run.the-variants.{Mixed, Integers}
 use Rattle.decide.specs.Forms.{listedIn}
 use Rattle.decide.specs.Runs.{Like}
 use Rattle.scalar.specs.Answers.{Ahead}
@@ -57,7 +57,6 @@ pub record HasRead (o l : List ℕ) (w : Form) (at rows depth : ℕ) (r : Step) 
 -- in a run of integers, what lies ahead is known
 abbrev pub AheadIn : Run → List ℕ → ℕ → ℕ → ℕ → Type 0
 AheadIn Mixed o at near far = Unit {0}
-AheadIn (Octets n) o at near far = Unit {0}
 AheadIn (Integers w most) o at near far = Ahead o at near far
 
 abbrev pub AheadOf : Run → List ℕ → Step → ℕ → ℕ → Type 0

@@ -313,14 +313,6 @@ fn value(
                 Step::On(next, rows + 1)
             }
         },
-        Run::Octets(n) => {
-            *near = 0;
-            *far = 0;
-            match scalar::octets_past(src, at, n) {
-                Passed::Refused(r) => Step::Stop(r),
-                Passed::Past(next) => Step::On(next, rows + 1),
-            }
-        }
         Run::Mixed => {
             *near = 0;
             *far = 0;

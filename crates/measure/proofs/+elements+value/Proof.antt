@@ -1,7 +1,7 @@
 use mathlib.Core.Path.{refl, sym, _∙_}
 use borrow.Author.Needs.{needs}
 use Prim.Native.Nat.{_+_, _-_, _*_}
-use Rattle.measure.proofs.Cycle.{Looking, looking-first, looking-can-read, looking-again, turning-less, held-halted, held-ended, held-stopped, can-end, value-deep, value-refused, value-single, value-nested, value-can-hold, ran-onto, ran-halted, octets-on, octets-stop, run-most, run-ahead, turned-deep, turned-plan, read-mixed, read-deep, rises, sinks, some-level, rows-fit, single-fits}
+use Rattle.measure.proofs.Cycle.{Looking, looking-first, looking-can-read, looking-again, turning-less, held-halted, held-ended, held-stopped, can-end, value-deep, value-refused, value-single, value-nested, value-can-hold, ran-onto, ran-halted, run-most, run-ahead, turned-deep, turned-plan, read-mixed, read-deep, rises, sinks, some-level, rows-fit, single-fits}
 use Prim.Native.Nat.{ℕ, _<_}
 use borrow.Fn.Kinds.{In}
 use borrow.Fn.PlainCycle.{Measures, is, falls, and}
@@ -19,7 +19,6 @@ use Rattle.measure.proofs.open_id.Reads as open-id-reads
 use Rattle.measure.proofs.plan_at.Reads as plan-at-reads
 use Rattle.measure.proofs.too_deep.Reads as too-deep-reads
 use Rattle.scalar.proofs.int_ahead.Reads as int-ahead-reads
-use Rattle.scalar.proofs.octets_past.Reads as octets-past-reads
 use Rattle.measure.proofs.+elements+value.{statement}
 use Rattle.measure.proofs.+elements+value.Tie.{close}
 
@@ -46,7 +45,7 @@ abbrev elements-claims : ℕ → elements-lts.Claims
 elements-claims t = (run-in-reads.Asked, run-in-reads.Learnt, open-id-reads.Asked, open-id-reads.Learnt, next-at-reads.Asked, next-at-reads.Learnt, end-id-reads.Asked, end-id-reads.Learnt, value-below t, value.Post)
 
 abbrev value-claims : ℕ → value-lts.Claims
-value-claims t = (turn-of-reads.Asked, turn-of-reads.Learnt, too-deep-reads.Asked, too-deep-reads.Learnt, int-ahead-reads.Asked, int-ahead-reads.Learnt, octets-past-reads.Asked, octets-past-reads.Learnt, plan-at-reads.Asked, plan-at-reads.Learnt, elements-below t, elements.Post)
+value-claims t = (turn-of-reads.Asked, turn-of-reads.Learnt, too-deep-reads.Asked, too-deep-reads.Learnt, int-ahead-reads.Asked, int-ahead-reads.Learnt, plan-at-reads.Asked, plan-at-reads.Learnt, elements-below t, elements.Post)
 
 abbrev elements-Inv-loop : elements-lts.InvT-loop
 elements-Inv-loop src ids₀ before depth named id listed indexed paired count form other run at₀ low₀ rows₀ near₀ far₀ ids at low rows near far =
@@ -134,26 +133,11 @@ value-enum-known-r t c = c .match2 .keys1
 value-enum-known-next : (t : ℕ) → value-lts.Need-enum-known-next (value-claims t) (value-at t) value.Post
 value-enum-known-next t c = c .match2 .keys2
 
-value-add-t33 : (t : ℕ) → value-lts.Need-add-t33 (value-claims t) (value-at t) value.Post
-value-add-t33 t c = record { fits = rows-fit (c .before .before .before .before .before .before .before .before .before .before .before .before .pre .1 .can) }
-
-value-enum-known-run-2 : (t : ℕ) → value-lts.Need-enum-known-run-2 (value-claims t) (value-at t) value.Post
-value-enum-known-run-2 t c = c .match .keys2
-
-value-octets-past-requires : (t : ℕ) → value-lts.Need-octets-past-requires (value-claims t) (value-at t) value.Post
-value-octets-past-requires t c κs = c .before .before .before .before .before .before .pre .1 .can .within
-
-value-enum-known-r-2 : (t : ℕ) → value-lts.Need-enum-known-r-2 (value-claims t) (value-at t) value.Post
-value-enum-known-r-2 t c = c .match3 .keys1
-
-value-enum-known-next-2 : (t : ℕ) → value-lts.Need-enum-known-next-2 (value-claims t) (value-at t) value.Post
-value-enum-known-next-2 t c = c .match3 .keys2
-
-value-add-t36 : (t : ℕ) → value-lts.Need-add-t36 (value-claims t) (value-at t) value.Post
-value-add-t36 t c = record { fits = rows-fit (c .before .before .before .before .before .before .before .before .before .before .pre .1 .can) }
+value-add-t30 : (t : ℕ) → value-lts.Need-add-t30 (value-claims t) (value-at t) value.Post
+value-add-t30 t c = record { fits = rows-fit (c .before .before .before .before .before .before .before .before .before .before .before .before .pre .1 .can) }
 
 value-enum-told : (t : ℕ) → value-lts.Need-enum-told (value-claims t) (value-at t) value.Post
-value-enum-told t c = c .match .keys3
+value-enum-told t c = c .match .keys2
 
 value-turn-of-requires-2 : (t : ℕ) → value-lts.Need-turn-of-requires-2 (value-claims t) (value-at t) value.Post
 value-turn-of-requires-2 t c κs = search needs
@@ -161,20 +145,20 @@ value-turn-of-requires-2 t c κs = search needs
 value-plan-at-requires : (t : ℕ) → value-lts.Need-plan-at-requires (value-claims t) (value-at t) value.Post
 value-plan-at-requires t c κs = (c .before .before .before .before .before .before .before .pre .1 .can .within, c .before .before .before .before .before .before .before .pre .1 .can .good)
 
-value-enum-known-r-3 : (t : ℕ) → value-lts.Need-enum-known-r-3 (value-claims t) (value-at t) value.Post
-value-enum-known-r-3 t c = c .match4 .keys1
+value-enum-known-r-2 : (t : ℕ) → value-lts.Need-enum-known-r-2 (value-claims t) (value-at t) value.Post
+value-enum-known-r-2 t c = c .match3 .keys1
 
-value-enum-known-next-3 : (t : ℕ) → value-lts.Need-enum-known-next-3 (value-claims t) (value-at t) value.Post
-value-enum-known-next-3 t c = c .match4 .keys2
+value-enum-known-next-2 : (t : ℕ) → value-lts.Need-enum-known-next-2 (value-claims t) (value-at t) value.Post
+value-enum-known-next-2 t c = c .match3 .keys2
 
-value-cast-t42 : (t : ℕ) → value-lts.Need-cast-t42 (value-claims t) (value-at t) value.Post
-value-cast-t42 t c = search needs
+value-cast-t36 : (t : ℕ) → value-lts.Need-cast-t36 (value-claims t) (value-at t) value.Post
+value-cast-t36 t c = search needs
 
-value-add-t43 : (t : ℕ) → value-lts.Need-add-t43 (value-claims t) (value-at t) value.Post
-value-add-t43 t c = record { fits = single-fits (c .before .before .before .before .before .before .before .before .before .before .before .pre .1 .can) (turned-plan (c .before .before .before .before .turn-of2 .ensures) (c .before .before .before .plan-at .ensures)) (c .before .next3 .given .1) }
+value-add-t37 : (t : ℕ) → value-lts.Need-add-t37 (value-claims t) (value-at t) value.Post
+value-add-t37 t c = record { fits = single-fits (c .before .before .before .before .before .before .before .before .before .before .before .pre .1 .can) (turned-plan (c .before .before .before .before .turn-of2 .ensures) (c .before .before .before .plan-at .ensures)) (c .before .next2 .given .1) }
 
 value-enum-known-contents : (t : ℕ) → value-lts.Need-enum-known-contents (value-claims t) (value-at t) value.Post
-value-enum-known-contents t c = c .match4 .keys3
+value-enum-known-contents t c = c .match3 .keys3
 
 value-add-elements : (t : ℕ) → value-lts.Need-add-elements (value-claims t) (value-at t) value.Post
 value-add-elements t c = record { fits = rows-fit (c .before .before .before .before .before .before .before .before .before .before .before .before .pre .1 .can) }
@@ -191,29 +175,23 @@ value-returns-2 t c = ran-halted (c .before .before .before .before .before .bef
 value-returns-3 : (t : ℕ) → value-lts.Need-returns-3 (value-claims t) (value-at t) value.Post
 value-returns-3 t c = ran-onto (c .before .before .before .before .before .before .before .before .before .before .before .before .pre .1) (some-level (c .before .before .before .before .before .before .before .before .before .if1 .left)) (c .before .before .before .before .before .before .before .run .given .1) (c .before .before .before .int-ahead .ensures) (c .before .next .given .1)
 
-value-returns-4 : (t : ℕ) → value-lts.Need-returns-4 (value-claims t) (value-at t) value.Post
-value-returns-4 t c = octets-stop (c .before .before .before .before .before .before .before .before .before .before .pre .1) (some-level (c .before .before .before .before .before .before .before .if1 .left)) (c .before .before .before .before .before .run2 .given .1) (c .before .before .before .octets-past .ensures) (c .before .r2 .given .1)
-
-value-returns-5 : (t : ℕ) → value-lts.Need-returns-5 (value-claims t) (value-at t) value.Post
-value-returns-5 t c = octets-on (c .before .before .before .before .before .before .before .before .before .before .pre .1) (some-level (c .before .before .before .before .before .before .before .if1 .left)) (c .before .before .before .before .before .run2 .given .1) (c .before .before .before .octets-past .ensures) (c .before .next2 .given .1)
-
 value-same-length : (t : ℕ) → value-lts.Need-same-length (value-claims t) (value-at t) value.Post
 value-same-length t c = refl
 
-value-returns-6 : (t : ℕ) → value-lts.Need-returns-6 (value-claims t) (value-at t) value.Post
-value-returns-6 t c = read-mixed (c .before .before .before .before .before .before .enum-told .given .1) (value-refused _ _ _ _ _ _ (turned-plan (c .before .before .before .before .turn-of2 .ensures) (c .before .before .before .plan-at .ensures)) (some-level (c .before .before .before .before .before .before .before .before .if1 .left)) (c .before .r3 .given .1))
+value-returns-4 : (t : ℕ) → value-lts.Need-returns-4 (value-claims t) (value-at t) value.Post
+value-returns-4 t c = read-mixed (c .before .before .before .before .before .before .enum-told .given .1) (value-refused _ _ _ _ _ _ (turned-plan (c .before .before .before .before .turn-of2 .ensures) (c .before .before .before .plan-at .ensures)) (some-level (c .before .before .before .before .before .before .before .before .if1 .left)) (c .before .r2 .given .1))
 
 value-same-length-2 : (t : ℕ) → value-lts.Need-same-length-2 (value-claims t) (value-at t) value.Post
 value-same-length-2 t c = refl
 
-value-returns-7 : (t : ℕ) → value-lts.Need-returns-7 (value-claims t) (value-at t) value.Post
-value-returns-7 t c = read-mixed (c .before .before .before .before .before .before .enum-told .given .1) (value-single _ _ _ _ _ _ (turned-plan (c .before .before .before .before .turn-of2 .ensures) (c .before .before .before .plan-at .ensures)) (some-level (c .before .before .before .before .before .before .before .before .if1 .left)) (c .before .next3 .given .1) (c .before .before .before .before .before .before .before .before .before .before .before .pre .1 .can))
+value-returns-5 : (t : ℕ) → value-lts.Need-returns-5 (value-claims t) (value-at t) value.Post
+value-returns-5 t c = read-mixed (c .before .before .before .before .before .before .enum-told .given .1) (value-single _ _ _ _ _ _ (turned-plan (c .before .before .before .before .turn-of2 .ensures) (c .before .before .before .plan-at .ensures)) (some-level (c .before .before .before .before .before .before .before .before .if1 .left)) (c .before .next2 .given .1) (c .before .before .before .before .before .before .before .before .before .before .before .pre .1 .can))
 
 value-same-length-3 : (t : ℕ) → value-lts.Need-same-length-3 (value-claims t) (value-at t) value.Post
 value-same-length-3 t c = c .before .before .elements .kept .1 .0
 
-value-returns-8 : (t : ℕ) → value-lts.Need-returns-8 (value-claims t) (value-at t) value.Post
-value-returns-8 t c = read-mixed (c .before .before .before .before .before .before .before .before .before .before .enum-told .given .1) (value-nested _ _ _ _ _ _ (turned-plan (c .before .before .before .before .before .before .before .before .turn-of2 .ensures) (c .before .before .before .before .before .before .before .plan-at .ensures)) (some-level (c .before .before .before .before .before .before .before .before .before .before .before .before .if1 .left)) (c .before .before .before .before .before .contents .given .1) (c .before .before .before .before .before .before .before .before .before .before .before .before .before .before .before .pre .1 .can) (c .before .before .elements .ensures))
+value-returns-6 : (t : ℕ) → value-lts.Need-returns-6 (value-claims t) (value-at t) value.Post
+value-returns-6 t c = read-mixed (c .before .before .before .before .before .before .before .before .before .before .enum-told .given .1) (value-nested _ _ _ _ _ _ (turned-plan (c .before .before .before .before .before .before .before .before .turn-of2 .ensures) (c .before .before .before .before .before .before .before .plan-at .ensures)) (some-level (c .before .before .before .before .before .before .before .before .before .before .before .before .if1 .left)) (c .before .before .before .before .before .contents .given .1) (c .before .before .before .before .before .before .before .before .before .before .before .before .before .before .before .pre .1 .can) (c .before .before .elements .ensures))
 
 pub +elements+value-spec : {M : Type 1} → statement M
 +elements+value-spec = close μ-elements μ-value (λ t. elements-lts.spec (elements-claims t) (elements-at t)
@@ -248,30 +226,23 @@ pub +elements+value-spec : {M : Type 1} → statement M
     (value-int-ahead-requires t)
     (value-enum-known-r t)
     (value-enum-known-next t)
-    (value-add-t33 t)
-    (value-enum-known-run-2 t)
-    (value-octets-past-requires t)
-    (value-enum-known-r-2 t)
-    (value-enum-known-next-2 t)
-    (value-add-t36 t)
+    (value-add-t30 t)
     (value-enum-told t)
     (value-turn-of-requires-2 t)
     (value-plan-at-requires t)
-    (value-enum-known-r-3 t)
-    (value-enum-known-next-3 t)
-    (value-cast-t42 t)
-    (value-add-t43 t)
+    (value-enum-known-r-2 t)
+    (value-enum-known-next-2 t)
+    (value-cast-t36 t)
+    (value-add-t37 t)
     (value-enum-known-contents t)
     (value-add-elements t)
     (value-sub-elements t)
     (value-elements-requires t)
     (value-returns-2 t)
     (value-returns-3 t)
-    (value-returns-4 t)
-    (value-returns-5 t)
     (value-same-length t)
-    (value-returns-6 t)
+    (value-returns-4 t)
     (value-same-length-2 t)
-    (value-returns-7 t)
+    (value-returns-5 t)
     (value-same-length-3 t)
-    (value-returns-8 t)
+    (value-returns-6 t)
