@@ -1,7 +1,6 @@
 -- Values of a container that are alike.
 use mathlib.Core.Path.{_≡_}
 use mathlib.Core.Bool.{Bool, true, cond}
-use Prim.Native.Nat.{ℕ}
 use lib.Dec.{eqb}
 use lib.IntN.{ℤ}
 use Rattle.scalar.specs.declared.Bits.{Bits}

@@ -1,3 +1,4 @@
 pub mod Cases
 pub mod Sides
 pub mod Counts
+pub mod Every

@@ -18,9 +18,12 @@ isDigit d = (leb 0x30 d && leb d 0x39) || (leb 0x41 d && leb d 0x46)
 abbrev pub digit : ℕ → ℕ
 digit d = cond (ltb d 0x40) (d - 0x30) (d - 0x37)
 
-unfoldable pub allDigits : List ℕ → Bool
-allDigits [] = true
-allDigits (d ∷ l) = isDigit d && allDigits l
+unfoldable pub every : (ℕ → Bool) → List ℕ → Bool
+every test [] = true
+every test (d ∷ l) = test d && every test l
+
+abbrev pub allDigits : List ℕ → Bool
+allDigits l = every isDigit l
 
 -- 01: "A line is 2 to 8,192 upper-case digits in pairs and a line feed; any other line is 17." (Here without its line feed.)
 abbrev pub isLine : List ℕ → Bool

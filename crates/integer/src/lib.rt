@@ -192,7 +192,7 @@ fn tail_at(src: &[u8], at: usize, first: u8, more: usize, bound: u64) -> Magnitu
 }
 
 // n, or -1 - n.
-fn signed32(positive: bool, n: u64) -> i32
+pub fn signed32(positive: bool, n: u64) -> i32
     requires { ⌜ n < 2 ^ 31 ⌝ }
     ensures { λ r. ⌜ r ≡ sign positive n ⌝ }
 {

@@ -14,7 +14,8 @@ use Rattle.reading.proofs.Only.{Only, o-bind, o-here, o-require, o-octet, o-ret
 use Rattle.reading.proofs.Does.{Does, d-bind, d-here, d-require, d-octet, d-ret, d-as}
 use Rattle.format.specs.Data.{run, spellChar, followers, codeOf, isChar, character, chars}
 use Rattle.format.specs.Grammar.{spellChars, Codes}
-use Rattle.laws.proofs.Tests.{and-left, and-right, eqList-true, eqList-same}
+use Rattle.reading.proofs.Tests.{and-left, and-right}
+use Rattle.laws.proofs.Tests.{eqList-true, eqList-same}
 
 -- ---- runs of octets
 

@@ -18,7 +18,7 @@ use Rattle.format.specs.Values.{Head, ruleOf}
 use Rattle.format.specs.Spelling.{fore, indexed, index, spellChildren}
 use Rattle.format.specs.Rows.{hasContents}
 use Rattle.format.specs.Writing.{Seen, seen, build, spellRows}
-use Rattle.laws.proofs.Tests.{and-right}
+use Rattle.reading.proofs.Tests.{and-right}
 use Rattle.laws.proofs.Characters.{octets-cons, octets-front}
 
 -- every element is an octet, as a record: so the list is found from it

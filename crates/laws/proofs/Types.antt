@@ -12,7 +12,8 @@ use lib.Signed.{ltZ, nonNeg}
 use borrow.Author.Tests.{ltb-true, lt-ltb}
 use Rattle.format.specs.Types.{Datum, packed, fixed, code, amount, implied, Holds, nothing, values, couples, indexes, properties, one, parts, Names, silent, gives, refers, integral, Kind, scalar, container, uncarried, table, kindOf}
 use Rattle.format.specs.Grammar.{Number, Int32}
-use Rattle.laws.proofs.Tests.{clash, and-left, and-right}
+use Rattle.reading.proofs.Tests.{and-left, and-right}
+use Rattle.laws.proofs.Tests.{clash}
 
 -- the test passes at every entry
 abbrev pub All : {A : Type 0} → (A → Bool) → List A → Bool

@@ -20,7 +20,8 @@ use Rattle.format.specs.Rows.{count, hasContents, rows}
 use Rattle.format.specs.Message.{Answer, ok, refused, unless, mostOctets, message}
 use Rattle.format.specs.Writing.{Seen, seen, HasRows, spellRows, eqHead, eqSeen, sameRows, written}
 use Rattle.laws.specs.Words.{Lying, AllLie, Faultless}
-use Rattle.laws.proofs.Tests.{and-left, and-right, and-both, eqZ-true, eqZ-same, eqList-true, eqList-same}
+use Rattle.reading.proofs.Tests.{and-left, and-right}
+use Rattle.laws.proofs.Tests.{and-both, eqZ-true, eqZ-same, eqList-true, eqList-same}
 use Rattle.laws.proofs.Types.{All}
 use Rattle.laws.proofs.Steps.{not-ok}
 use Rattle.laws.proofs.Messages.{accepted-is}

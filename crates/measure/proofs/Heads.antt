@@ -1,6 +1,6 @@
 -- The type of a value, as the code finds it.
 use mathlib.Core.Path.{_≡_, refl, sym, ap, subst, _∙_}
-use mathlib.Core.Bool.{Bool, true, false, _&&_}
+use mathlib.Core.Bool.{Bool, true, false}
 use mathlib.Core.List.{List}
 use mathlib.Core.Logic.{_⊎_, inl, inr}
 use Prim.Native.Nat.{ℕ, _<_, _≤_}
@@ -8,6 +8,7 @@ use native.Mathlib.Omega.{arith}
 use lib.ListN.{length}
 use lib.IntN.{ℤ, negsuc}
 use lib.Signed.{ltZ}
+use Rattle.reading.proofs.Tests.{and-left}
 use Rattle.reading.specs.declared.Refusal.{Refusal}
 use Rattle.reading.specs.Reading.{Env, State, Out, stop, stand, follow, _>>=_, here, require}
 use Rattle.integer.specs.Packed.{wide32, integer}
@@ -44,11 +45,7 @@ whole-headed once {o} {at} {from} {t} i = record {
 -- a bare value is not judged: its type was
 unjudged : (inner : Inner) (t : ℤ) (own p : ℕ) (s : State) → elementary t ≡ true → judged inner false t own p s ≡ inner t own p s
 unfolding judged _>>=_ require
-unjudged inner t own p s e = rw (carried (kindOf t .carried) (ltZ (negsuc 30) t) e)
-  where
-    carried : (a b : Bool) → a && b ≡ true → a ≡ true
-    carried true b e = refl
-    carried false b e = e
+unjudged inner t own p s e = rw (and-left (kindOf t .carried) (ltZ (negsuc 30) t) e)
 
 bare-headed : {o : List ℕ} {at from : ℕ} {s t : ℤ} → at ≤ length o → BareIs t at (Standing from s) → elementary t ≡ true → Headed o (bare t) at from 0 s false
 unfolding each _>>=_ here stand

@@ -15,6 +15,7 @@ use mir.Val.{toZ}
 use mir.ValLaws.{toZ-pos}
 use borrow.Author.Tests.{leb-true, le-leb, lt-leb, lt-ltb, le-ltb, eq-eqb, ne-eqb}
 use Rattle.integer.proofs.Signs.{flipped}
+use Rattle.format.proofs.Every.{every-at}
 use Rattle.queries.specs.declared.Numeral.{Numeral}
 use Rattle.queries.specs.declared.Numeral.the-variants.{Says, Not}
 use Rattle.queries.specs.declared.Integer.the-variants.{Held, Beyond}
@@ -38,37 +39,6 @@ module _ (d : ℕ) where
       by true p false q e = let z : _≡_ {A = ℕ} 0 1 = cc in absurd (omega arith)
       by false p t q e = let z : _≡_ {A = ℕ} 0 1 = cc in absurd (omega arith)
 
--- ---- all digits
-
-both-left : (s t : Bool) → s && t ≡ true → s ≡ true
-both-left true t e = refl
-both-left false t e = e
-
-both-right : (s t : Bool) → s && t ≡ true → t ≡ true
-both-right true t e = e
-both-right false t e = let z : _≡_ {A = ℕ} 0 1 = cc in absurd (omega arith)
-
-all-at : (l : List ℕ) → allDecimal l ≡ true → (i : ℕ) → i < length l → isDecimal (getD l i 0) ≡ true
-unfolding allDecimal
-all-at [] e i h = absurd (omega arith)
-all-at (d ∷ l) e zero h = both-left (isDecimal d) (allDecimal l) e
-all-at (d ∷ l) e (suc i) h = all-at l (both-right (isDecimal d) (allDecimal l) e) i (omega arith)
-
--- from the i-th on
-all-from : (l : List ℕ) (i : ℕ) → i < length l → allDecimal (drop i l) ≡ (isDecimal (getD l i 0) && allDecimal (drop (i + 1) l))
-unfolding allDecimal
-all-from l i h = ap allDecimal (drop-cons l i 0 h) ∙ rw add-one
-
-pub all-more : (l : List ℕ) (i : ℕ) → i < length l → isDecimal (getD l i 0) ≡ true → allDecimal (drop i l) ≡ allDecimal (drop (i + 1) l)
-all-more l i h e = all-from l i h ∙ rw e
-
-pub all-not : (l : List ℕ) (i : ℕ) → i < length l → isDecimal (getD l i 0) ≡ false → allDecimal (drop i l) ≡ false
-all-not l i h e = all-from l i h ∙ rw e
-
-pub all-end : (l : List ℕ) (i : ℕ) → length l ≤ i → allDecimal (drop i l) ≡ true
-unfolding allDecimal
-all-end l i h = ap allDecimal (drop-of-length-le l h)
-
 -- ---- what digits say
 
 -- the first i of at most 19 digits say n
@@ -82,7 +52,7 @@ reading-none l = record { within = omega arith; rest = refl; small = omega arith
 
 module _ {l : List ℕ} {n i : ℕ} (r : Reading l n i) (all : allDecimal l ≡ true) (few : length l ≤ 19) (h : i < length l) where
   pub digit-range : (0x30 ≤ getD l i 0) × (getD l i 0 ≤ 0x39)
-  digit-range = decimal-range (getD l i 0) (all-at l all i h)
+  digit-range = decimal-range (getD l i 0) (every-at isDecimal l all i h)
 
   pub reading-small : n < 10 ^ 18
   reading-small = let top : 10 ^ i ≤ 10 ^ 18 = pow-le-pow-right (omega arith) {i = i} {j = 18} (omega arith) in omega (arith, r .small)

@@ -5,6 +5,7 @@ use Prim.Native.Nat.{ℕ, zero, suc, _+_, _-_, _*_}
 use lib.ListN.{length, getD, drop}
 use lib.Dec.{leb, eqb}
 use lib.IntN.{ℤ, pos, negsuc}
+use Rattle.format.specs.Desk.{every}
 use Rattle.queries.specs.declared.Numeral.{Numeral}
 use Rattle.queries.specs.declared.Numeral.the-variants.{Says, Not}
 
@@ -12,9 +13,8 @@ use Rattle.queries.specs.declared.Numeral.the-variants.{Says, Not}
 abbrev pub isDecimal : ℕ → Bool
 isDecimal d = leb 0x30 d && leb d 0x39
 
-unfoldable pub allDecimal : List ℕ → Bool
-allDecimal [] = true
-allDecimal (d ∷ l) = isDecimal d && allDecimal l
+abbrev pub allDecimal : List ℕ → Bool
+allDecimal l = every isDecimal l
 
 -- what digits say, after those that say n
 unfoldable pub digitsOn : ℕ → List ℕ → ℕ

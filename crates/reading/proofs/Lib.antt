@@ -1,3 +1,4 @@
+pub mod Tests
 pub mod Sound
 pub mod Only
 pub mod Does

@@ -11,7 +11,7 @@ use borrow.Author.Tests.{ltb-true, ltb-false, lt-ltb, le-ltb, le-leb, lt-leb, le
 use Rattle.format.specs.Data.{eqList, spellChar, followers, codeOf, isChar}
 use Rattle.scalar.specs.Parts.{part, counts, spellingOf, Spells}
 use Rattle.scalar.proofs.Octets.{part-more, part-none}
-use Rattle.scalar.proofs.Tests.{no, and-split}
+use Rattle.reading.proofs.Tests.{no, and-split}
 
 -- ---- octets that are the same
 

@@ -15,7 +15,7 @@ use mir.ValLaws.{toZ-ofZ, toZ-pos}
 use Rattle.format.specs.Data.{within, leap, days, dateFits}
 use Rattle.scalar.specs.Moments.{clockFits}
 use Rattle.scalar.proofs.Signed.{held}
-use Rattle.scalar.proofs.Tests.{no, and-split}
+use Rattle.reading.proofs.Tests.{no, and-split}
 
 pub leap-not : (y : ℕ) → (y % 4 ≡ 0 → ⊥) → false ≡ leap y
 leap-not y h = sym (rw (ne-eqb (y % 4) 0 h, ne-eqb (y % 400) 0 (λ e. h (omega arith))))

@@ -34,7 +34,8 @@ use Rattle.scalar.specs.declared.Passed.{Passed}
 use Rattle.scalar.specs.declared.Passed.the-variants.{Past, Refused}
 use Rattle.scalar.specs.declared.Ran.the-variants.{Onto, Halted}
 use Rattle.scalar.specs.Answers.{widthOf, mostOf, fitting, Passes, pastOf, Ahead, Runs}
-use Rattle.scalar.proofs.Tests.{leb-below, and-true, and-split}
+use Rattle.reading.proofs.Tests.{and-split}
+use Rattle.scalar.proofs.Tests.{leb-below, and-true}
 use Rattle.scalar.proofs.Passing.{passes-got, passes-stop}
 
 -- ---- the last octet says whether the integer fits

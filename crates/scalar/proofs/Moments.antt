@@ -31,7 +31,8 @@ use Rattle.scalar.specs.Answers.{momentPast, Passing}
 use Rattle.scalar.specs.Moments.{outTwo, outThree, pastTwo, pastThree, ReadsTwo, ReadsThree, clockFits, countOf, offsets, clock, partsOf, isTime, isClocked}
 use Rattle.scalar.proofs.Integers.{got32, next32, stop32}
 use Rattle.scalar.proofs.Signed.{held}
-use Rattle.scalar.proofs.Tests.{no, and-true, and-comm, and-split, two-more}
+use Rattle.reading.proofs.Tests.{no, and-split}
+use Rattle.scalar.proofs.Tests.{and-true, and-comm, two-more}
 
 -- ---- two and three integers
 

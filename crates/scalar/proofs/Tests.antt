@@ -17,14 +17,6 @@ leb-below n k = by (ltb n (k + 1)) refl
     by true e = le-leb n k (omega (arith, ltb-true n (k + 1) e))
     by false e = lt-leb n k (omega (arith, ltb-false n (k + 1) e))
 
--- a test does not come out both ways
-pub no : false ≡ true → ⊥
-no e = let z : _≡_ {A = ℕ} 0 1 = cc in omega arith
-
-pub and-split : (t u : Bool) → t && u ≡ true → (t ≡ true) × (u ≡ true)
-and-split true u e = (refl, e)
-and-split false u e = absurd (no e)
-
 pub and-comm : (t u : Bool) → t && u ≡ u && t
 and-comm true true = refl
 and-comm true false = refl

@@ -5,7 +5,7 @@ ghost use Prim.Native.Nat.{_+_, _^_, _≤_, _<_};
 ghost use lib.ListN.{length, getD};
 ghost use lib.Dec.{leb};
 ghost use lib.IntN.{pos};
-ghost use Rattle.integer.specs.Packed.{integer, wide16, wide32, wide64, sign};
+ghost use Rattle.integer.specs.Packed.{integer, wide16, wide32, wide64};
 ghost use Rattle.integer.specs.Answers.{Reads32};
 ghost use Rattle.integer.specs.Windows.{little, ends};
 ghost use Rattle.format.specs.Types.{octets, characters, date, dateTime};
@@ -481,18 +481,6 @@ pub enum Three {
     Cut3(Refusal),
 }
 
-// n, or -1 - n.
-fn with_sign(positive: bool, n: u64) -> i32
-    requires { ⌜ n < 2 ^ 31 ⌝ }
-    ensures { λ r. ⌜ r ≡ sign positive n ⌝ }
-{
-    let v = n as i32;
-    if positive {
-        return v;
-    }
-    !v
-}
-
 // The 32-bit integer at a place: one or two octets at once, as those of dates and times are.
 fn int_at(src: &[u8], at: usize) -> Read32
     ensures { λ r. ⌜ Reads32 (now (src .entry)) at r ⌝ }
@@ -501,12 +489,12 @@ fn int_at(src: &[u8], at: usize) -> Read32
         let b = src[at];
         let low = (b % 64) as u64;
         if b < 128 {
-            return Read32::Int32(at + 1, with_sign(b % 128 < 64, low));
+            return Read32::Int32(at + 1, integer::signed32(b % 128 < 64, low));
         }
         if 2 <= src.len() - at {
             let c = src[at + 1];
             if 0 < c && c < 128 {
-                return Read32::Int32(at + 2, with_sign(b % 128 < 64, low + 64 * c as u64));
+                return Read32::Int32(at + 2, integer::signed32(b % 128 < 64, low + 64 * c as u64));
             }
         }
     }

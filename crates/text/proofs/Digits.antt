@@ -1,5 +1,5 @@
 -- A line's digits, and the octets that they are in pairs.
-use mathlib.Core.Path.{_≡_, refl, sym, ap, _∙_}
+use mathlib.Core.Path.{_≡_, refl, sym, _∙_}
 use mathlib.Core.Bool.{Bool, true, false, _&&_}
 use mathlib.Core.List.{List, [], _∷_}
 use Prim.Native.Nat.{ℕ, zero, suc, _+_, _-_, _*_, _/_, _%_, _<_, _≤_}
@@ -46,37 +46,6 @@ module _ (d : ℕ) where
 
   pub high-value : 0x41 ≤ d → d - 0x37 ≡ digit d
   high-value h = rw (le-ltb d 0x40 (omega arith))
-
--- ---- all digits
-
-both-left : (s t : Bool) → s && t ≡ true → s ≡ true
-both-left true t e = refl
-both-left false t e = e
-
-both-right : (s t : Bool) → s && t ≡ true → t ≡ true
-both-right true t e = e
-both-right false t e = let z : _≡_ {A = ℕ} 0 1 = cc in absurd (omega arith)
-
-pub all-digit : (l : List ℕ) → allDigits l ≡ true → (i : ℕ) → i < length l → isDigit (getD l i 0) ≡ true
-unfolding allDigits
-all-digit [] e i h = absurd (omega arith)
-all-digit (d ∷ l) e zero h = both-left (isDigit d) (allDigits l) e
-all-digit (d ∷ l) e (suc i) h = all-digit l (both-right (isDigit d) (allDigits l) e) i (omega arith)
-
--- from the i-th on
-all-from : (l : List ℕ) (i : ℕ) → i < length l → allDigits (drop i l) ≡ (isDigit (getD l i 0) && allDigits (drop (i + 1) l))
-unfolding allDigits
-all-from l i h = ap allDigits (drop-cons l i 0 h) ∙ rw add-one
-
-pub all-more : (l : List ℕ) (i : ℕ) → i < length l → isDigit (getD l i 0) ≡ true → allDigits (drop i l) ≡ allDigits (drop (i + 1) l)
-all-more l i h e = all-from l i h ∙ rw e
-
-pub all-not : (l : List ℕ) (i : ℕ) → i < length l → isDigit (getD l i 0) ≡ false → allDigits (drop i l) ≡ false
-all-not l i h e = all-from l i h ∙ rw e
-
-pub all-end : (l : List ℕ) (i : ℕ) → length l ≤ i → allDigits (drop i l) ≡ true
-unfolding allDigits
-all-end l i h = ap allDigits (drop-of-length-le l h)
 
 -- ---- the octets
 

@@ -3,8 +3,8 @@ use Prim.Native.Nat.{_≤_, _-_}
 use native.Mathlib.Omega.{arith}
 use borrow.Author.Tests.{not-true, not-false}
 use lib.ListN.{length, drop}
-use Rattle.queries.specs.Numerals.{allDecimal}
-use Rattle.queries.proofs.Numbers.{all-more, all-not, all-end}
+use Rattle.format.proofs.Every.{every-more, every-not, every-end}
+use Rattle.queries.specs.Numerals.{isDecimal, allDecimal}
 use Rattle.queries.proofs.all_decimal.Statement.{statement}
 use Rattle.queries.proofs.all_decimal.Tie as tie
 
@@ -24,7 +24,7 @@ is-decimal-requires : tie.Need-is-decimal-requires Inv-loop μ-loop
 is-decimal-requires c κs = tt
 
 returns : tie.Need-returns Inv-loop μ-loop
-returns c = sym (c .before .before .before .before .loop .inv .1 ∙ all-not _ _ (c .before .before .before .loop-test .taken) (sym (c .before .is-decimal .ensures) ∙ not-true _ (c .if1 .taken)))
+returns c = sym (c .before .before .before .before .loop .inv .1 ∙ every-not isDecimal _ _ (c .before .before .before .loop-test .taken) (sym (c .before .is-decimal .ensures) ∙ not-true _ (c .if1 .taken)))
 
 add-i : tie.Need-add-i Inv-loop μ-loop
 add-i c = omega arith
@@ -33,10 +33,10 @@ loop-less : tie.Need-loop-less Inv-loop μ-loop
 loop-less c = omega arith
 
 loop-again : tie.Need-loop-again Inv-loop μ-loop
-loop-again c = (omega arith, c .before .before .before .before .loop .inv .1 ∙ all-more _ _ (c .before .before .before .loop-test .taken) (sym (c .before .is-decimal .ensures) ∙ not-false _ (c .if1 .left)))
+loop-again c = (omega arith, c .before .before .before .before .loop .inv .1 ∙ every-more isDecimal _ _ (c .before .before .before .loop-test .taken) (sym (c .before .is-decimal .ensures) ∙ not-false _ (c .if1 .left)))
 
 returns-2 : tie.Need-returns-2 Inv-loop μ-loop
-returns-2 c = sym (c .before .loop .inv .1 ∙ all-end _ _ (c .loop-test .left))
+returns-2 c = sym (c .before .loop .inv .1 ∙ every-end isDecimal _ _ (c .loop-test .left))
 
 pub all-decimal-spec : {M : Type 1} → statement M
 all-decimal-spec =

@@ -14,11 +14,11 @@ cast-low c = search needs
 add-t11 : tie.Need-add-t11
 add-t11 c = search needs
 
-with-sign-requires : tie.Need-with-sign-requires
-with-sign-requires c κs = search needs
+signed32-requires : tie.Need-signed32-requires
+signed32-requires c κs = search needs
 
 returns : tie.Need-returns
-returns c = reads-one (c .before .before .before .if1 .taken) (c .with-sign .ok) (c .before .if2 .taken) (c .with-sign .ensures)
+returns c = reads-one (c .before .before .before .if1 .taken) (c .signed32 .ok) (c .before .if2 .taken) (c .signed32 .ensures)
 
 sub-if3 : tie.Need-sub-if3
 sub-if3 c = search needs
@@ -32,20 +32,20 @@ shared-slice-read-c c = search needs
 add-t22 : tie.Need-add-t22
 add-t22 c = search needs
 
-cast-with-sign : tie.Need-cast-with-sign
-cast-with-sign c = search needs
+cast-signed32 : tie.Need-cast-signed32
+cast-signed32 c = search needs
 
-mul-with-sign : tie.Need-mul-with-sign
-mul-with-sign c = omega (arith, ltb-true)
+mul-signed32 : tie.Need-mul-signed32
+mul-signed32 c = omega (arith, ltb-true)
 
-add-with-sign : tie.Need-add-with-sign
-add-with-sign c = omega (arith, ltb-true)
+add-signed32 : tie.Need-add-signed32
+add-signed32 c = omega (arith, ltb-true)
 
-with-sign-requires-2 : tie.Need-with-sign-requires-2
-with-sign-requires-2 c κs = omega (arith, ltb-true)
+signed32-requires-2 : tie.Need-signed32-requires-2
+signed32-requires-2 c κs = omega (arith, ltb-true)
 
 returns-2 : tie.Need-returns-2
-returns-2 c = reads-two (c .before .before .before .before .before .before .before .if1 .taken) (c .with-sign2 .ok) (c .before .before .before .before .before .if2 .left) (omega arith) (c .before .before .if4 .taken) (omega (arith, ltb-true)) (c .with-sign2 .ensures)
+returns-2 c = reads-two (c .before .before .before .before .before .before .before .if1 .taken) (c .signed322 .ok) (c .before .before .before .before .before .if2 .left) (omega arith) (c .before .before .if4 .taken) (omega (arith, ltb-true)) (c .signed322 .ensures)
 
 int32-at-requires : tie.Need-int32-at-requires
 int32-at-requires c κs = search needs
@@ -60,16 +60,16 @@ int-at-spec =
     shared-slice-read-b
     cast-low
     add-t11
-    with-sign-requires
+    signed32-requires
     returns
     sub-if3
     add-c
     shared-slice-read-c
     add-t22
-    cast-with-sign
-    mul-with-sign
-    add-with-sign
-    with-sign-requires-2
+    cast-signed32
+    mul-signed32
+    add-signed32
+    signed32-requires-2
     returns-2
     int32-at-requires
     returns-3)

@@ -3,7 +3,7 @@ use lib.ListN.{getD}
 use borrow.Author.Tests.{ltb-false}
 use mathlib.Core.Path.{_≡_, sym, subst, _∙_}
 use mathlib.Core.Logic.{⊎-elim}
-use Rattle.scalar.proofs.Tests.{no}
+use Rattle.reading.proofs.Tests.{no}
 use Prim.Native.Nat.{_-_, _≤_}
 use mathlib.Core.Bool.{true}
 use native.Mathlib.Omega.{arith}

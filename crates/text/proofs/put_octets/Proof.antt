@@ -3,7 +3,9 @@ use native.Mathlib.Omega.{arith}
 use lib.ListN.{drop}
 use Rattle.format.specs.Desk.{octetsOf}
 use Rattle.text.proofs.Writes.{Left, left-all, left-one, left-place, left-none}
-use Rattle.text.proofs.Digits.{all-digit, octets-more, octets-end}
+use Rattle.format.specs.Desk.{isDigit}
+use Rattle.format.proofs.Every.{every-at}
+use Rattle.text.proofs.Digits.{octets-more, octets-end}
 use Rattle.text.proofs.put_octets.Statement.{statement}
 use Rattle.text.proofs.put_octets.Tie as tie
 
@@ -23,7 +25,7 @@ shared-slice-read-digit-of : tie.Need-shared-slice-read-digit-of Inv-loop μ-loo
 shared-slice-read-digit-of c = omega arith
 
 digit-of-requires : tie.Need-digit-of-requires Inv-loop μ-loop
-digit-of-requires c κs = all-digit _ (c .before .before .before .before .before .pre .0) _ (omega arith)
+digit-of-requires c κs = every-at isDigit _ (c .before .before .before .before .before .pre .0) _ (omega arith)
 
 mul-digit-of-2 : tie.Need-mul-digit-of-2 Inv-loop μ-loop
 mul-digit-of-2 c = omega arith
@@ -35,7 +37,7 @@ shared-slice-read-digit-of-2 : tie.Need-shared-slice-read-digit-of-2 Inv-loop μ
 shared-slice-read-digit-of-2 c = omega arith
 
 digit-of-requires-2 : tie.Need-digit-of-requires-2 Inv-loop μ-loop
-digit-of-requires-2 c κs = all-digit _ (c .before .before .before .before .before .before .before .pre .0) _ (omega arith)
+digit-of-requires-2 c κs = every-at isDigit _ (c .before .before .before .before .before .before .before .pre .0) _ (omega arith)
 
 mul-out : tie.Need-mul-out Inv-loop μ-loop
 mul-out c = omega arith
