@@ -31,7 +31,8 @@ use Rattle.format.specs.Spelling.{identifier}
 use Rattle.format.specs.Grammar.{Int32, Element as Elements}
 use Rattle.format.specs.Data.{eqZ, bits, big, unsigned, number, spellNumber, spellElement, character, spellChar}
 use Rattle.laws.proofs.Sound.{owned, unowned}
-use Rattle.laws.proofs.Tests.{clash, and-left, and-right, eqZ-true}
+use Rattle.reading.proofs.Tests.{and-left, and-right}
+use Rattle.laws.proofs.Tests.{clash, eqZ-true}
 use Rattle.laws.proofs.Types.{All, kind-all}
 use Rattle.laws.proofs.Leaves.{number-does, element-does, bigSpelt-long}
 use Rattle.laws.proofs.Characters.{run-does, character-does}

@@ -20,7 +20,8 @@ use Rattle.format.specs.Values.{Form, whole, bare, Rule, counted, rising, momen
 use Rattle.format.specs.Rows.{rows}
 use Rattle.format.specs.Message.{Answer, ok, refused, unless, then, answer, mostOctets, reading, ends, wholeMessage, message, withinRows, readMessage, firstLength, measure, wholeFrame, frame, readFrame}
 use Rattle.format.specs.Asking.{possible, fitting, narrow, integerAs, truth, asked, only, sortAs, ask}
-use Rattle.laws.proofs.Tests.{clash, and-left, and-right, and-both}
+use Rattle.reading.proofs.Tests.{and-left, and-right}
+use Rattle.laws.proofs.Tests.{clash, and-both}
 use Rattle.measure.specs.Entries.{rowsNeeded}
 use Rattle.message.specs.Messages as messages
 use Rattle.frame.specs.Frames.{needs, told}
