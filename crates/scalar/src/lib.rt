@@ -202,6 +202,7 @@ pub fn int_ahead(src: &[u8], at: usize, w: Bits, most: usize, near: u64, far: u6
             let z = u64::trailing_zeros(near);
             let k = (z / 8) as usize;
             let last = src[at + k] as usize;
+            // Shortest form: `last` is 0 only where k is; k is below 8. And fitting, as in `fits_in`.
             if k <= last * 8 && k * 256 + last <= most {
                 return Ran::Onto(
                     at + k + 1,
