@@ -1,3 +1,5 @@
+#![tactic(auto)]
+
 // Asking a row for its value as a type (document 01, "Asking a row"), and looking up a label (01, "The rows").
 mod tables;
 

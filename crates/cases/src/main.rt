@@ -1,3 +1,5 @@
+#![tactic(auto)]
+
 // Answers cases, a line each, from standard input to standard output.
 ghost use Rattle.std.specs.Prelude.{◌≡◌, ◌*◌, ◌^◌, ◌≤◌, ◌<◌, length};
 ghost use Rattle.columns.specs.Columns.{columns};

@@ -1,3 +1,5 @@
+#![tactic(auto)]
+
 // Ten lent columns: cleared, and rows stored in them.
 ghost use Rattle.std.specs.Prelude.{◌≡◌, ◌≤◌, length, pos};
 ghost use Rattle.columns.specs.Columns.{columns, Roomy, Stored, cleared, seven, LeafRoom, LeafStored};

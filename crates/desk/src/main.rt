@@ -1,3 +1,5 @@
+#![tactic(auto)]
+
 // The desk: lists the frames of lines, from standard input to standard output.
 ghost use Rattle.std.specs.Prelude.{◌≤◌, ◌<◌, length};
 ghost use Rattle.desk.specs.Turns.{Within, Going};

@@ -1,3 +1,5 @@
+#![tactic(auto)]
+
 ghost use Rattle.std.specs.Prelude.{◌≡◌, Bool, false, ◌^◌, ◌≤◌, ◌<◌, length, pos};
 ghost use Rattle.format.specs.Types.{packed, fixed, code, amount, one, silent, gives, string, dated, container};
 ghost use Rattle.scalar.specs.declared.Bits.{Bits};

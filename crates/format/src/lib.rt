@@ -1,3 +1,5 @@
+#![tactic(auto)]
+
 // A row: what is told of one value of a message. The columns of a table have these types, in this order.
 #[derive(Drop)]
 pub struct Row {

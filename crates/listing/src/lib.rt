@@ -1,3 +1,5 @@
+#![tactic(auto)]
+
 ghost use Rattle.std.specs.Prelude.{◌+◌, ◌≤◌, length};
 ghost use Rattle.format.specs.Desk.{printed, line_text};
 ghost use Rattle.format.specs.Message.{read_frame};

@@ -1,3 +1,5 @@
+#![tactic(auto)]
+
 ghost use Rattle.std.specs.Prelude.{◌≡◌, ◌+◌, ◌≤◌, length};
 ghost use Rattle.format.specs.Values.{has};
 ghost use Rattle.measure.specs.Identities.{listed, given, ended, one, Ids, Begun, Closed};

@@ -1,3 +1,5 @@
+#![tactic(auto)]
+
 ghost use Rattle.std.specs.Prelude.{◌≡◌, ◌^◌, ◌<◌, length};
 ghost use Rattle.columns.specs.Columns.{columns};
 ghost use Rattle.message.specs.Messages.{least, least_of, RowsStored, MessageRead};

@@ -1,3 +1,5 @@
+#![tactic(auto)]
+
 // A case that asks a row: ten numbers and a word, a blank between them.
 ghost use Rattle.std.specs.Prelude.{◌≡◌, true, ◌^◌, ◌≤◌, length, drop};
 ghost use Rattle.reading.specs.Reading.{refusal};

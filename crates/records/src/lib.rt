@@ -1,3 +1,5 @@
+#![tactic(auto)]
+
 ghost use Rattle.std.specs.Prelude.{◌+◌, ◌≡◌, ◌≤◌, length};
 ghost use Rattle.columns.specs.Columns.{columns, Roomy};
 ghost use Rattle.records.specs.Records.{RowOf, LabelAt, rows_in};

@@ -1,3 +1,5 @@
+#![tactic(auto)]
+
 ghost use Rattle.std.specs.Prelude.{◌≡◌, [], ◌∷◌, map, ◌+◌, ◌*◌, ◌≤◌, length, pos};
 ghost use Rattle.reading.specs.Reading.{refusal};
 ghost use Rattle.format.specs.Desk.{decimal, printed};

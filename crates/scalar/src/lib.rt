@@ -1,3 +1,5 @@
+#![tactic(auto)]
+
 ghost use Rattle.std.specs.Prelude.{◌≡◌, true, cond, ◌&&◌, ◌||◌, [], ◌∷◌, ◌+◌, ◌^◌, ◌≤◌, ◌<◌, length, get_or, leb, pos};
 ghost use Rattle.integer.specs.Packed.{integer, wide16, wide32, wide64};
 ghost use Rattle.integer.specs.Answers.{Reads32};

@@ -1,3 +1,5 @@
+#![tactic(auto)]
+
 // The boundary: what C and Rust programs link. Answers are plain numbers. A function gives back 0 for a result, else the number of the refusal;
 // numbers that are lent hold the rest, and 0 where there is nothing to hold. No function asks anything of its caller.
 ghost use Rattle.std.specs.Prelude.{◌≡◌};

@@ -1,3 +1,5 @@
+#![tactic(auto)]
+
 ghost use Rattle.std.specs.Prelude.{◌≡◌, true, ◌<◌, ◌≤◌, length, pos};
 ghost use Rattle.format.specs.Desk.{decimal, numbers, row_text, printed, is_digit, digit, all_digits, octets_of};
 ghost use Rattle.format.specs.Message.{refused};
