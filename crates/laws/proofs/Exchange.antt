@@ -15,7 +15,7 @@ use Rattle.integer.specs.Packed.{spell_int}
 use Rattle.format.specs.declared.Row.{Row}
 use Rattle.format.specs.Types.{kind_of}
 use Rattle.format.specs.Data.{eq_z}
-use Rattle.format.specs.Values.{Children, empty, child, child_of, Value, whole, rising, rule_by, rule_of}
+use Rattle.format.specs.Values.{Children, empty, child, child_of, Value, value, whole, rising, rule_by, rule_of}
 use Rattle.format.specs.Spelling.{fore, indexed, spell_children, spell}
 use Rattle.format.specs.Rows.{count, row_of, rows_from, rows}
 use Rattle.format.specs.Message.{ok, message, Frame, is_user, frame}
@@ -202,7 +202,7 @@ unfolding tops labelled
 tops-labelled i at empty [] p later e h = let z : ◌≡◌ {A = ℕ} 0 1 = cc in absurd (omega arith)
 tops-labelled i at empty (q ∷ sooner) p later e h = let z : ◌≡◌ {A = ℕ} 0 1 = cc in absurd (omega arith)
 tops-labelled i at (child j k cs more) [] p later e h = let own : j ≡ p.label = ap (λ (r : Row). r.label) (same_first e).0 in rw (own, h, eq_z-same i)
-tops-labelled i at (child j k cs more) (q ∷ sooner) p later e h = by (eq_z (pos j) i) (tops-labelled i _ more sooner p later (same_first e).1 h)
+tops-labelled i at (child j k cs more) (q ∷ sooner) p later e h = by (eq_z (pos j) i) (tops-labelled i (at + length (spell_int (pos j)) + length (spell (value k cs))) more sooner p later (same_first e).1 h)
   where
     by : (t : Bool) → labelled i more ≡ true → cond t true (labelled i more) ≡ true
     by true q = refl

@@ -74,7 +74,7 @@ from-rising x at (child i h cs more) m q =
     let to = from + length (spell (value h cs)) in
     let inside = rows_from (indexed (rule_of h)) (from + length (fore h)) cs in (
       subst (Indexed (kind_of h.ty).holds (row_of i h (count cs) from to)) (sym (take_at inside (rows_from x to more) (count cs) (rows-length _ _ cs))) (row-indexed i h cs from to (from + length (fore h)) q.0),
-      rising-join inside (rows_from x to more) (rows-nested _ _ cs m.1) (from-rising _ _ cs m.1 q.1) (from-rising x to more m.2 q.2),
+      rising-join inside (rows_from x to more) (rows-nested _ _ cs m.1) (from-rising (indexed (rule_of h)) (from + length (fore h)) cs m.1 q.1) (from-rising x to more m.2 q.2),
     )
 
 pub rows-rising : (v : Value) → Valid v → Rising (rows v)

@@ -1,9 +1,0 @@
-use mathlib.Core.Path.{refl}
-use Rattle.queries.proofs.no_row.Statement.{statement}
-use Rattle.queries.proofs.no_row.Tie as tie
-
-returns : tie.Need-returns
-returns c = refl
-
-pub no-row-spec : {M : Type 1} → statement M
-no-row-spec = tie.close (tie.spec returns)
