@@ -57,7 +57,7 @@ pub fn put_rows(
 // ---- Cases ----
 
 // What an answer begins with is written up to `end`; so many rows of the columns follow, and a line feed.
-#[derive(Drop)]
+#[derive(Clone, Copy)]
 pub struct Begun {
     pub end: usize,
     pub rows: usize,

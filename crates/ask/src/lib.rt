@@ -19,7 +19,7 @@ use format::{As, Row};
 use reading::Refusal;
 
 // What a row answers: its value as the type asked for, or a refusal, whose place is 0.
-#[derive(Drop)]
+#[derive(Clone, Copy)]
 pub enum Asked {
     Value(i64),
     Refused(Refusal),
@@ -32,7 +32,7 @@ fn refuse(number: u8) -> Asked
 }
 
 // What a row is to the asking. Impossible: its type is unknown or not carried, or no row of the type has its number.
-#[derive(Drop)]
+#[derive(Clone, Copy)]
 enum Sort {
     Impossible,
     Integer,

@@ -109,7 +109,7 @@ fn answer_all(
 }
 
 // What a turn brings: so many octets at the front; or the last of them, where the input has ended.
-#[derive(Drop)]
+#[derive(Clone, Copy)]
 enum Turn {
     More(usize),
     Last(usize),

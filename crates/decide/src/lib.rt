@@ -14,7 +14,7 @@ use reading::Refusal;
 use scalar::{Bits, Which};
 
 // The values inside a container: as many as its number says; as many pairs of key and value; pairs of index and value; properties.
-#[derive(Drop)]
+#[derive(Clone, Copy)]
 pub enum Inside {
     List,
     Pairs,
@@ -23,7 +23,7 @@ pub enum Inside {
 }
 
 // A container: whether element types stand first in its data, one or two, and the values inside.
-#[derive(Drop)]
+#[derive(Clone, Copy)]
 pub struct Shape {
     pub first: bool,
     pub second: bool,
@@ -31,7 +31,7 @@ pub struct Shape {
 }
 
 // How the data of a type goes.
-#[derive(Drop)]
+#[derive(Clone, Copy)]
 pub enum Class {
     Refused,
     Small,
@@ -107,7 +107,7 @@ fn may_be_element(c: Class) -> bool
 }
 
 // A number of 0 or more and the place past it, or a refusal.
-#[derive(Drop)]
+#[derive(Clone, Copy)]
 pub enum Amount {
     Number(usize, u32),
     NoNumber(Refusal),
@@ -135,7 +135,7 @@ pub fn amount_at(src: &[u8], at: usize) -> Amount
 }
 
 // An element type and the place past it, or a refusal.
-#[derive(Drop)]
+#[derive(Clone, Copy)]
 pub enum Element {
     Of(usize, i32),
     NoType(Refusal),
@@ -174,7 +174,7 @@ pub fn type_at(src: &[u8], on: bool, at: usize) -> Element
 
 // How a value inside a container stands: with its identifier; so too, as the value of an identity, which isn't one; or bare, of a type. Of bare values
 // that are so many octets, or an integer of a width, the form says that too, so that it is decided once for all values of a container.
-#[derive(Drop)]
+#[derive(Clone, Copy)]
 pub enum Form {
     Whole,
     Named,
@@ -197,7 +197,7 @@ pub fn own_of(form: Form) -> u8
 }
 
 // The place of a value's data, and its type; or a refusal.
-#[derive(Drop)]
+#[derive(Clone, Copy)]
 pub enum Typed {
     Standing(usize, i32),
     Untyped(Refusal),
@@ -226,7 +226,7 @@ pub fn typed_at(src: &[u8], form: Form, at: usize) -> Typed
 }
 
 // The place of a value's data, and its class; or a refusal.
-#[derive(Drop)]
+#[derive(Clone, Copy)]
 pub enum Classed {
     Data(usize, Class),
     Unclassed(Refusal),
@@ -269,7 +269,7 @@ pub fn class_in(form: Form, t: i32) -> Class
 
 // The values of a container: how many, or below what their indexes; how many stand by position; how they stand, by turns; whether they have indexes, and
 // whether they are the keys and values of a map.
-#[derive(Drop)]
+#[derive(Clone, Copy)]
 pub struct Nest {
     pub count: usize,
     pub listed: u32,
@@ -351,7 +351,7 @@ pub fn nest_of(shape: Shape, first: i32, second: i32, n: u32) -> Nest
 // ---- The next value of a container ----
 
 // A value at a place, with its label, and the position or least index after it; the end, and the place past it; or a refusal.
-#[derive(Drop)]
+#[derive(Clone, Copy)]
 pub enum Next {
     Value(usize, u32, u32),
     End(usize),
@@ -426,7 +426,7 @@ pub fn turn_of(form: Form, other: Form, i: u32) -> Form
 // ---- Values that are alike ----
 
 // What all values of a container are: integers of a width, with the number that tells which fit; or they are not known to be.
-#[derive(Drop)]
+#[derive(Clone, Copy)]
 pub enum Run {
     Mixed,
     Integers(Bits, usize),

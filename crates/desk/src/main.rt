@@ -7,7 +7,7 @@ ghost use Rattle.desk.specs.Turns.{Within, Going};
 use reading::Refusal;
 
 // How many octets are listed, or that a write failed.
-#[derive(Drop)]
+#[derive(Clone, Copy)]
 enum Listed {
     Used(usize),
     Failed,
@@ -49,7 +49,7 @@ fn refuse_last(out: &mut [u8])
 }
 
 // What a turn leaves: a part of a line, of so many octets, at the front; or that all is done.
-#[derive(Drop)]
+#[derive(Clone, Copy)]
 enum Turn {
     Held(usize),
     Ended,

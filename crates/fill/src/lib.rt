@@ -19,7 +19,7 @@ use scalar::{Bits, Coded, Moment, Which};
 // ---- The number of a value ----
 
 // The place past a value's number, and the number.
-#[derive(Drop)]
+#[derive(Clone, Copy)]
 pub enum Numbered {
     Number(usize, i64),
     Missing,
@@ -83,7 +83,7 @@ fn implied_number(ty: i32) -> i64
 
 // What stands in the data before the values inside: element types, 0 where none; the number; the place of string contents, 0 where none are; and
 // the place past all of it.
-#[derive(Drop)]
+#[derive(Clone, Copy)]
 pub struct Fore {
     pub first: i32,
     pub second: i32,
@@ -93,7 +93,7 @@ pub struct Fore {
 }
 
 // What is read of a value's data: what stands before the values inside; and what it holds, if any.
-#[derive(Drop)]
+#[derive(Clone, Copy)]
 pub enum Data {
     Leaf(Fore),
     Holder(Fore, Nest),
@@ -226,7 +226,7 @@ fn data_at(src: &[u8], form: Form, ty: i32, at: usize) -> Data
 // ---- A value's row ----
 
 // What is found of a value: its row, up to the values inside, without their rows and ending where they begin; and what it holds, if any.
-#[derive(Drop)]
+#[derive(Clone, Copy)]
 pub enum Found {
     Leaf(Row),
     Holder(Row, Nest),
@@ -293,7 +293,7 @@ fn closed_row(row: Row, below: usize, end: usize) -> Row
 }
 
 // How far filling came: the place and the row past what was filled in. Of accepted octets none are left unread.
-#[derive(Drop)]
+#[derive(Clone, Copy)]
 pub enum Step {
     On(usize, usize),
     Unread,

@@ -1,7 +1,7 @@
 #![tactic(auto)]
 
 // A row: what is told of one value of a message. The columns of a table have these types, in this order.
-#[derive(Drop)]
+#[derive(Clone, Copy)]
 pub struct Row {
     // The type identifier.
     pub ty: i32,
@@ -25,7 +25,7 @@ pub struct Row {
 }
 
 // What a row may be asked for as.
-#[derive(Drop)]
+#[derive(Clone, Copy)]
 pub enum As {
     Int16,
     Int32,

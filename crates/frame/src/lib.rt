@@ -10,10 +10,10 @@ use measure::Step;
 use reading::Refusal;
 
 // A place counted from a frame's first octet, and one counted from its message's first octet: two counts, kept apart.
-#[derive(Drop)]
+#[derive(Clone, Copy)]
 pub struct FramePlace(pub usize);
 
-#[derive(Drop)]
+#[derive(Clone, Copy)]
 pub struct MessagePlace(pub usize);
 
 // The place in the frame of a message's place, where the message starts at `from`: the one conversion.
@@ -25,14 +25,14 @@ pub fn in_frame(from: FramePlace, p: MessagePlace) -> FramePlace
 }
 
 // The place of a frame's message, and the conversation number; or a refusal.
-#[derive(Drop)]
+#[derive(Clone, Copy)]
 pub enum Opened {
     Message(FramePlace, i32),
     Unframed(Refusal),
 }
 
 // The place of an accepted frame's message, the rows of the message, and the conversation number; or a refusal, at a frame place.
-#[derive(Drop)]
+#[derive(Clone, Copy)]
 pub enum Framed {
     Rows(FramePlace, usize, i32),
     Refused(Refusal),

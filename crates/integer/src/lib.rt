@@ -98,21 +98,21 @@ fn held(w: u64, e: u64) -> u64
 // ---- Reading ----
 
 // The place past an integer and its n (of n, or of -1 - n); or a refusal.
-#[derive(Drop)]
+#[derive(Clone, Copy)]
 pub enum Magnitude {
     Mag(usize, u64),
     Ill(Refusal),
 }
 
 // A 32-bit integer with the place past it, or a refusal.
-#[derive(Drop)]
+#[derive(Clone, Copy)]
 pub enum Read32 {
     Int32(usize, i32),
     Refused32(Refusal),
 }
 
 // A 32-bit integer by its sign, as n of n or of -1 - n, with the place past it; or a refusal.
-#[derive(Drop)]
+#[derive(Clone, Copy)]
 pub enum Signed {
     Positive(usize, u32),
     Negative(usize, u32),
@@ -120,7 +120,7 @@ pub enum Signed {
 }
 
 // A 64-bit integer with the place past it, or a refusal.
-#[derive(Drop)]
+#[derive(Clone, Copy)]
 pub enum Read64 {
     Int64(usize, i64),
     Refused64(Refusal),

@@ -100,7 +100,7 @@ pub fn list_line(line: &[u8], out: &mut [u8], at: usize) -> usize
 }
 
 // How many octets of the lines are listed, and how many are written.
-#[derive(Drop)]
+#[derive(Clone, Copy)]
 pub struct Progress {
     pub used: usize,
     pub written: usize,

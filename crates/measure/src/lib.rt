@@ -16,7 +16,7 @@ use scalar::{Moment, Passed, Ran};
 
 // The values inside a container: the place of the first, what the container holds, and the number of the identity that it gives, if it gives one. As in
 // each plan, the place stands first.
-#[derive(Drop)]
+#[derive(Clone, Copy)]
 pub struct Contents {
     pub from: usize,
     pub nest: Nest,
@@ -26,7 +26,7 @@ pub struct Contents {
 
 // What is found of a value: a refusal; the place past it and its rows, at most 11; or a container. The rows are counted in an octet, as wide as a
 // refusal's number: one layout for both.
-#[derive(Drop)]
+#[derive(Clone, Copy)]
 pub enum Plan {
     Refuse(Refusal),
     Single(usize, u8),
@@ -235,7 +235,7 @@ fn plan_at(src: &[u8], ids: &[u32], form: Form, at: usize) -> Plan
 // ---- The checking cycle ----
 
 // The place past what was read, and the rows counted; or a refusal.
-#[derive(Drop)]
+#[derive(Clone, Copy)]
 pub enum Step {
     On(usize, usize),
     Stop(Refusal),
@@ -367,7 +367,7 @@ fn elements(src: &[u8], ids: &mut [u32], contents: Contents, before: usize, dept
 // ---- Entries ----
 
 // A length, or a number of rows; or a refusal.
-#[derive(Drop)]
+#[derive(Clone, Copy)]
 pub enum Measured {
     Amount(usize),
     Refused(Refusal),

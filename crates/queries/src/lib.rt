@@ -15,14 +15,14 @@ use reading::Refusal;
 // ---- Numbers ----
 
 // A number as it is written: whether it has a minus, and what its digits say.
-#[derive(Drop)]
+#[derive(Clone, Copy)]
 struct Number {
     minus: bool,
     size: u64,
 }
 
 // The number that a field says, or that it says none.
-#[derive(Drop)]
+#[derive(Clone, Copy)]
 enum Numeral {
     Says(Number),
     Not,
@@ -101,7 +101,7 @@ fn number_of(field: &[u8]) -> Numeral
 // ---- Fields ----
 
 // A number and the place past the blank after it, or that there is none.
-#[derive(Drop)]
+#[derive(Clone, Copy)]
 enum NumberField {
     Past(Number, usize),
     Not,
@@ -124,7 +124,7 @@ fn number_at(line: &[u8], at: usize) -> NumberField
 }
 
 // The place of a field, or that there is none.
-#[derive(Drop)]
+#[derive(Clone, Copy)]
 enum Place {
     At(usize),
     Not,
@@ -164,7 +164,7 @@ fn same(a: &[u8], b: &[u8]) -> bool
 }
 
 // The type that a word names, or that it names none.
-#[derive(Drop)]
+#[derive(Clone, Copy)]
 enum Word {
     Names(As),
     Not,
@@ -210,7 +210,7 @@ fn last_word(line: &[u8], at: usize) -> Word
 // ---- Asking ----
 
 // An integer that so many bits hold, or that they do not.
-#[derive(Drop)]
+#[derive(Clone, Copy)]
 enum Integer {
     Held(i64),
     Beyond,
@@ -256,7 +256,7 @@ fn row_of(ty: i32, number: i64) -> Row
 }
 
 // What a case that asks a row is answered: the row's value, a refusal, or that the case is malformed.
-#[derive(Drop)]
+#[derive(Clone, Copy)]
 pub enum Query {
     Value(i64),
     Refused(Refusal),

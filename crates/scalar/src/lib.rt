@@ -14,7 +14,7 @@ use integer::{Read32, Read64};
 use reading::Refusal;
 
 // The place past what was passed, or a refusal.
-#[derive(Drop)]
+#[derive(Clone, Copy)]
 pub enum Passed {
     Past(usize),
     Refused(Refusal),
@@ -39,7 +39,7 @@ fn either(a: bool, b: bool) -> bool
 // ---- Integers ----
 
 // The width of an integer.
-#[derive(Drop)]
+#[derive(Clone, Copy)]
 pub enum Bits {
     Bits16,
     Bits32,
@@ -152,7 +152,7 @@ pub fn int_past(src: &[u8], at: usize, w: Bits) -> Passed
 // ---- Integers, one after another ----
 
 // The place past an integer, and what lies ahead of it: the ends of the eight octets there, and of the eight after them, or 0; or a refusal.
-#[derive(Drop)]
+#[derive(Clone, Copy)]
 pub enum Ran {
     Onto(usize, u64, u64),
     Halted(Refusal),
@@ -470,14 +470,14 @@ pub fn text_past(src: &[u8], at: usize, n: usize, chars: bool) -> Passed
 // ---- Dates and times ----
 
 // Two integers and the place past them, or a refusal.
-#[derive(Drop)]
+#[derive(Clone, Copy)]
 pub enum Two {
     Both(usize, i32, i32),
     Cut2(Refusal),
 }
 
 // Three integers and the place past them, or a refusal.
-#[derive(Drop)]
+#[derive(Clone, Copy)]
 pub enum Three {
     All(usize, i32, i32, i32),
     Cut3(Refusal),
@@ -587,14 +587,14 @@ fn date_fits(y: i32, m: i32, d: i32) -> bool
 }
 
 // The place past a date or time and the count of its integers, or a refusal.
-#[derive(Drop)]
+#[derive(Clone, Copy)]
 pub enum Moment {
     Parts(usize, usize),
     Unfit(Refusal),
 }
 
 // Which of the three it is.
-#[derive(Drop)]
+#[derive(Clone, Copy)]
 pub enum Which {
     Date,
     Time,
@@ -745,7 +745,7 @@ pub fn bits_at(src: &[u8], at: usize, n: usize) -> i64
 }
 
 // The place past a character and its code; lost where none is accepted.
-#[derive(Drop)]
+#[derive(Clone, Copy)]
 pub enum Coded {
     Code(usize, u32),
     Lost,

@@ -133,7 +133,7 @@ pub fn put_refused(out: &mut [u8], at: usize, r: Refusal) -> usize
 // ---- A line that comes in ----
 
 // How many octets a line's digits are, or that it is no line.
-#[derive(Drop)]
+#[derive(Clone, Copy)]
 pub enum Line {
     Octets(usize),
     Not,

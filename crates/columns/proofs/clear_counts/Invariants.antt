@@ -1,0 +1,11 @@
+use Prim.Native.Nat.{◌-◌}
+use borrow.Author.Rules.{rules}
+use Rattle.columns.proofs.Cleared.{Clearing, clearing-first, clearing-more, clearing-done}
+use Rattle.columns.proofs.clear_counts.Lts as lts
+use Rattle.columns.proofs.clear_counts.Given as goal
+
+abbrev pub invariant-loop-i : goal.invariant-loop-i
+invariant-loop-i l = Clearing l.n 0 l.initial.col l.col l.i
+
+abbrev pub decreases-loop-i : goal.decreases-loop-i
+decreases-loop-i l = l.n - l.i
