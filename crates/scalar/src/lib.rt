@@ -93,7 +93,7 @@ fn past16(src: &[u8], at: usize) -> Passed
     }
 }
 
-fn Past32(src: &[u8], at: usize) -> Passed
+fn past32(src: &[u8], at: usize) -> Passed
     ensures { Passes 1 src.now at (integer wide32) result }
 {
     match integer::int32_at(src, at) {
@@ -102,7 +102,7 @@ fn Past32(src: &[u8], at: usize) -> Passed
     }
 }
 
-fn Past64(src: &[u8], at: usize) -> Passed
+fn past64(src: &[u8], at: usize) -> Passed
     ensures { Passes 1 src.now at (integer wide64) result }
 {
     match integer::int64_at(src, at) {
@@ -117,8 +117,8 @@ fn long_past(src: &[u8], at: usize, w: Bits) -> Passed
 {
     match w {
         Bits::Bits16 => past16(src, at),
-        Bits::Bits32 => Past32(src, at),
-        Bits::Bits64 => Past64(src, at),
+        Bits::Bits32 => past32(src, at),
+        Bits::Bits64 => past64(src, at),
     }
 }
 

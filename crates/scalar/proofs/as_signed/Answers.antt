@@ -3,7 +3,6 @@ use native.Mathlib.Omega.{arith}
 use borrow.Author.Tests.{lt-ltb, le-ltb}
 use mir.Syntax.{w64}
 use Rattle.integer.proofs.Signs.{flipped}
-use borrow.Author.Rules.{rules}
 use Rattle.scalar.proofs.as_signed.Goals as goal
 
 pub returns-then-x-lt9223372036854775808 : goal.returns-then-x-lt9223372036854775808

@@ -1,6 +1,5 @@
 use native.Mathlib.Omega.{arith}
 use Rattle.scalar.proofs.Values.{size-last, big-of-one, big-of-four, big-of-eight}
-use borrow.Author.Rules.{rules}
 use Rattle.scalar.proofs.big_at.Goals as goal
 
 pub returns-then-n-eq1 : goal.returns-then-n-eq1

@@ -2,7 +2,6 @@ use mathlib.Core.Path.{ap, ◌∙◌}
 use mir.Syntax.{w64}
 use Rattle.format.specs.Data.{bits}
 use Rattle.integer.proofs.Signs.{returned}
-use borrow.Author.Rules.{rules}
 use Rattle.scalar.proofs.bits_at.Goals as goal
 
 pub returns : goal.returns

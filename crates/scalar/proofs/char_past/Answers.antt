@@ -1,6 +1,5 @@
 use native.Mathlib.Omega.{arith}
 use Rattle.scalar.proofs.Character.{none-refused, null-refused, one-passed}
-use borrow.Author.Rules.{rules}
 use Rattle.scalar.proofs.char_past.Goals as goal
 
 pub returns-then-src-at : goal.returns-then-src-at

@@ -1,7 +1,6 @@
 use lib.IntN.{pos, negsuc}
 use Rattle.scalar.proofs.Signed.{in-range}
 use Rattle.scalar.proofs.Dates.{clock-is}
-use borrow.Author.Rules.{rules}
 use Rattle.scalar.proofs.clock_fits.Goals as goal
 
 pub returns : goal.returns

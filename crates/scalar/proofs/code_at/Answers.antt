@@ -1,7 +1,6 @@
 use native.Mathlib.Omega.{arith}
 use Rattle.scalar.proofs.Chars.{follow-two, follow-three}
 use Rattle.scalar.proofs.Character.{lost-none, lost-cut, code_one, code-two, code-three}
-use borrow.Author.Rules.{rules}
 use Rattle.scalar.proofs.code_at.Goals as goal
 
 pub returns-then-src-at : goal.returns-then-src-at

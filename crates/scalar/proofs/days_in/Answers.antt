@@ -1,6 +1,5 @@
 use mathlib.Core.Path.{sym, ◌∙◌}
 use Rattle.scalar.proofs.Dates.{days-leap, days-plain, days-short, days-long}
-use borrow.Author.Rules.{rules}
 use Rattle.scalar.proofs.days_in.Goals as goal
 
 pub returns-then-leap_year : goal.returns-then-leap_year

@@ -1,6 +1,5 @@
 use native.Mathlib.Omega.{arith}
 use Rattle.scalar.proofs.Values.{big-four}
-use borrow.Author.Rules.{rules}
 use Rattle.scalar.proofs.four_at.Goals as goal
 
 pub returns : goal.returns

@@ -4,8 +4,6 @@ use Prim.Native.Nat.{◌+◌, ◌/◌}
 use lib.Count.{count_trailing_zeros, trailing_le}
 use Rattle.integer.proofs.Windows.{zeros-lt}
 use Rattle.scalar.proofs.Integers.{runs_on}
-use borrow.Author.Tests.{leb-true}
-use borrow.Author.Rules.{rules}
 use Rattle.scalar.proofs.int_ahead.Goals as goal
 
 pub overflow_cast-k : goal.overflow_cast-k
@@ -45,4 +43,4 @@ pub ends_at-requires : goal.ends_at-requires
 ends_at-requires c = omega (arith, zeros-lt 64 c.args.near (omega arith) (omega arith))
 
 pub returns-then-k-last-2 : goal.returns-then-k-last-2
-returns-then-k-last-2 c = runs_on _ _ _ _ c.if-at-src.true (λ i. (c.type_inv.src i).fits) c.requires.3 c.if-near-ne0.true refl c.requires.2 c.if-k-last.true (leb-true _ _ c.if-k-last-2.true) c.ends_on.ensures c.ends_at.ensures
+returns-then-k-last-2 c = runs_on _ _ _ _ c.if-at-src.true (λ i. (c.type_inv.src i).fits) c.requires.3 c.if-near-ne0.true refl c.requires.2 c.if-k-last.true c.if-k-last-2.true c.ends_on.ensures c.ends_at.ensures

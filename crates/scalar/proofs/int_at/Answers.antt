@@ -1,7 +1,6 @@
 use native.Mathlib.Omega.{arith}
 use borrow.Author.Tests.{ltb-true}
 use Rattle.scalar.proofs.Integers.{reads-one, reads_two}
-use borrow.Author.Rules.{rules}
 use Rattle.scalar.proofs.int_at.Goals as goal
 
 pub returns-then-b-lt128 : goal.returns-then-b-lt128

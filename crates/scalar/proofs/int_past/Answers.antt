@@ -2,8 +2,6 @@ use native.Mathlib.Omega.{arith}
 use mathlib.Core.Path.{refl}
 use Rattle.integer.proofs.Windows.{ends-one}
 use Rattle.scalar.proofs.Integers.{past_end, past_one, word-passes}
-use borrow.Author.Rules.{rules}
-use Rattle.scalar.proofs.int_past.Lts as lts
 use Rattle.scalar.proofs.int_past.Goals as goal
 
 pub returns-then-src-at : goal.returns-then-src-at

@@ -1,18 +1,16 @@
-use borrow.Author.Tests.{not-true, not-false}
 use mathlib.Core.Path.{sym, ◌∙◌}
 use native.Mathlib.Omega.{arith}
 use Rattle.scalar.proofs.Character.{outside-refused, cut-refused, misspelt-refused, spelt-passed}
-use borrow.Author.Rules.{rules}
 use Rattle.scalar.proofs.long_char.Goals as goal
 
 pub returns-then-not-begins : goal.returns-then-not-begins
-returns-then-not-begins c = outside-refused _ _ c.requires.0 c.requires.1 (sym c.begins.ensures ∙ not-true _ c.if-not-begins.true)
+returns-then-not-begins c = outside-refused _ _ c.requires.0 c.requires.1 (sym c.begins.ensures ∙ c.if-not-begins.true)
 
 pub returns-then-src-at : goal.returns-then-src-at
-returns-then-src-at c = cut-refused _ _ c.requires.0 c.requires.1 (sym c.begins.ensures ∙ not-false _ c.if-not-begins.false) (omega (arith, c.size_of.ensures))
+returns-then-src-at c = cut-refused _ _ c.requires.0 c.requires.1 (sym c.begins.ensures ∙ c.if-not-begins.false) (omega (arith, c.size_of.ensures))
 
 pub returns-then-n-eq0 : goal.returns-then-n-eq0
-returns-then-n-eq0 c = misspelt-refused _ _ c.requires.0 c.requires.1 (sym c.begins.ensures ∙ not-false _ c.if-not-begins.false) (omega (arith, c.size_of.ensures)) c.spelling-n.ensures c.if-n-eq0.true
+returns-then-n-eq0 c = misspelt-refused _ _ c.requires.0 c.requires.1 (sym c.begins.ensures ∙ c.if-not-begins.false) (omega (arith, c.size_of.ensures)) c.spelling-n.ensures c.if-n-eq0.true
 
 pub returns : goal.returns
-returns c = spelt-passed _ _ c.requires.0 c.requires.1 (sym c.begins.ensures ∙ not-false _ c.if-not-begins.false) (omega (arith, c.size_of.ensures)) c.spelling-n.ensures c.if-n-eq0.false
+returns c = spelt-passed _ _ c.requires.0 c.requires.1 (sym c.begins.ensures ∙ c.if-not-begins.false) (omega (arith, c.size_of.ensures)) c.spelling-n.ensures c.if-n-eq0.false

@@ -3,7 +3,6 @@ use native.Mathlib.Omega.{arith}
 use lib.ListN.{length}
 use lib.Dec.{leb}
 use Rattle.scalar.proofs.Integers.{next-within, runs-got, runs-stop}
-use borrow.Author.Rules.{rules}
 use Rattle.scalar.proofs.long_run.Goals as goal
 
 pub near_at-requires : goal.near_at-requires

@@ -1,6 +1,5 @@
 use mathlib.Core.Path.{sym, ◌∙◌}
 use Rattle.scalar.proofs.Moments.{time-passed, date-passed}
-use borrow.Author.Rules.{rules}
 use Rattle.scalar.proofs.moment_past.Goals as goal
 
 pub returns-then-is_time : goal.returns-then-is_time

@@ -1,5 +1,4 @@
 use borrow.Author.Tests.{le-leb, lt-leb}
-use borrow.Author.Rules.{rules}
 use Rattle.scalar.proofs.near_at.Goals as goal
 
 pub returns-then-at-src : goal.returns-then-at-src

@@ -1,6 +1,5 @@
 use native.Mathlib.Omega.{arith}
 use Rattle.scalar.proofs.Octets.{octets-there, octets-short}
-use borrow.Author.Rules.{rules}
 use Rattle.scalar.proofs.octets_past.Goals as goal
 
 pub returns-then-src-at : goal.returns-then-src-at

@@ -1,7 +1,6 @@
 use lib.IntN.{pos, negsuc}
 use Rattle.scalar.proofs.Signed.{seen}
 use Rattle.scalar.proofs.Integers.{past16-got, past16-over, past16-stop}
-use borrow.Author.Rules.{rules}
 use Rattle.scalar.proofs.past16.Goals as goal
 
 pub returns-then-between : goal.returns-then-between

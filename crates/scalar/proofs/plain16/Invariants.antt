@@ -1,14 +1,7 @@
-use Prim.Native.Nat.{◌+◌}
-use lib.ListN.{get_or}
-use borrow.Author.Tests.{ltb-false}
-use mathlib.Core.Path.{◌≡◌, sym, subst, ◌∙◌}
-use mathlib.Core.Logic.{⊎_elim}
-use Rattle.reading.proofs.Tests.{no}
+use mathlib.Core.Path.{◌≡◌}
 use Prim.Native.Nat.{◌-◌, ◌≤◌}
 use mathlib.Core.Bool.{true}
-use native.Mathlib.Omega.{arith}
 use Rattle.scalar.specs.Parts.{Plain}
-use Rattle.scalar.proofs.Text.{plain-again}
 use Rattle.scalar.proofs.plain16.Given as goal
 
 abbrev pub invariant-loop-k : goal.invariant-loop-k

@@ -1,7 +1,4 @@
-use Prim.Native.Nat.{◌-◌}
 use native.Mathlib.Omega.{arith}
-use borrow.Author.Tests.{not-false}
-use Rattle.scalar.specs.Parts.{Reached}
 use Rattle.scalar.proofs.Text.{reached-first, plain_more}
 use Rattle.scalar.proofs.plain_run.Goals as goal
 
@@ -15,7 +12,7 @@ pub returns-then-not-plain16 : goal.returns-then-not-plain16
 returns-then-not-plain16 c = c.loop-at.invariant
 
 pub loop-at-preserved : goal.loop-at-preserved
-loop-at-preserved c = plain_more c.requires.1 16 _ c.loop-at.invariant (c.plain16.ensures (not-false _ c.if-not-plain16.false)) (omega arith)
+loop-at-preserved c = plain_more c.requires.1 16 _ c.loop-at.invariant (c.plain16.ensures (c.if-not-plain16.false)) (omega arith)
 
 pub returns : goal.returns
 returns c = c.loop-at.invariant

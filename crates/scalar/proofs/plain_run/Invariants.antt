@@ -1,8 +1,5 @@
 use Prim.Native.Nat.{◌-◌}
-use native.Mathlib.Omega.{arith}
-use borrow.Author.Tests.{not-false}
 use Rattle.scalar.specs.Parts.{Reached}
-use Rattle.scalar.proofs.Text.{reached-first, plain_more}
 use Rattle.scalar.proofs.plain_run.Given as goal
 
 abbrev pub invariant-loop-at : goal.invariant-loop-at

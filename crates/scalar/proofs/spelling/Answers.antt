@@ -1,6 +1,5 @@
 use native.Mathlib.Omega.{arith}
 use Rattle.scalar.proofs.Chars.{spells_one, spells-two, spells-three, misspelt-two, misspelt-three, two-told, three-told}
-use borrow.Author.Rules.{rules}
 use Rattle.scalar.proofs.spelling.Goals as goal
 
 pub returns-then-a-lt128 : goal.returns-then-a-lt128

@@ -1,7 +1,5 @@
 use Prim.Native.Nat.{◌-◌}
-use native.Mathlib.Omega.{arith}
 use Rattle.scalar.specs.Parts.{Reached}
-use Rattle.scalar.proofs.Text.{reached-first, reached-more, told-bad, told-end}
 use Rattle.scalar.proofs.spelt.Given as goal
 
 abbrev pub invariant-loop-at : goal.invariant-loop-at

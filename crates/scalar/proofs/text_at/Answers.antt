@@ -1,7 +1,6 @@
 use native.Mathlib.Omega.{arith}
 use borrow.Author.Tests.{ltb-true}
 use Rattle.scalar.proofs.Text.{told-plain, told-from}
-use borrow.Author.Rules.{rules}
 use Rattle.scalar.proofs.text_at.Goals as goal
 
 pub returns-then-plain16 : goal.returns-then-plain16
