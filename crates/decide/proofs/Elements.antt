@@ -76,7 +76,7 @@ module _ {o : List ℕ} {at : ℕ} {x : Read32} (reads : Reads32 o at x) where
 
   module _ {next : ℕ} {z : ℤ} {c : Class} (h : x ≡ Int32 next z) (f : mag z < 2 ^ 31) (k : ClassOf (to_z w32 (of_z w32 z)) c) where
     element-as : may_be_element c ≡ elementary z
-    element-as = k.element ∙ ap elementary (held (record { sfits = f }))
+    element-as = k.element ∙ ap elementary (held {w = w32} (record { sfits = f }))
 
     pub type-some : may_be_element c ≡ true → ElementAt o at (Of next (to_z w32 (of_z w32 z)))
     type-some s =

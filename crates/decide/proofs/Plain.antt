@@ -6,8 +6,6 @@ use Prim.Native.Nat.{ℕ, zero, suc, ◌<◌}
 use lib.ListN.{get_or, drop}
 use lib.Dec.{ltb, lit<}
 use lib.IntN.{ℤ, pos, negsuc, ◌-ℤ◌}
-use types.Run.{OneOf, miss}
-use denote.Enum.Declared.{tag_of}
 use mir.Syntax.{w32}
 use mir.Val.{SFits, to_z, of_z}
 use Rattle.integer.proofs.Signs.{held}
@@ -19,7 +17,6 @@ use Rattle.decide.specs.declared.Class.{Class}
 use Rattle.decide.specs.declared.Class.TheVariants.{Refused, Small, Int, Fixed, Char, Holder, Identity, Reference, Text as Texted, Parts as Parted}
 use Rattle.decide.specs.declared.Form.{Form}
 use Rattle.decide.specs.declared.Form.TheVariants.{Bare, Sized, Packed}
-use Rattle.decide.specs.contracts.Class as C
 use Rattle.decide.specs.Classes.{Is, ClassOf}
 use Rattle.decide.specs.Forms.{says, known, Sound, bits_of, form_by, bare_form}
 
@@ -121,9 +118,6 @@ form-for (Holder h) t i = rw i
 form-for Identity t i = rw i
 form-for Reference t i = rw i
 
-abbrev others : List ℕ
-others = 0 ∷ 1 ∷ 4 ∷ 5 ∷ 6 ∷ 7 ∷ 8 ∷ 9 ∷ []
-
 -- as the code has the type
 module _ {t : ℤ} (f : SFits w32 t) {c : Class} (k : ClassOf (to_z w32 (of_z w32 t)) c) where
   is-class : {d : Class} → c ≡ d → Is d t
@@ -135,18 +129,18 @@ module _ {t : ℤ} (f : SFits w32 t) {c : Class} (k : ClassOf (to_z w32 (of_z w3
   pub form-by : {d : Class} → c ≡ d → form_for d (to_z w32 (of_z w32 t)) ≡ bare_form t
   form-by {d} e = rw (held f) (form-for d t (is-class {d = d} e))
 
-  -- any other class, by the positions in `Class`
-  pub form-else : OneOf others (tag_of C.the_type c) → Bare (to_z w32 (of_z w32 t)) ≡ bare_form t
-  form-else h = rest c h ∙ form-by refl
+  -- any other class
+  pub form-else : ((b : Bits) → c ≡ Int b → ⊥) → ((n : ℕ) → c ≡ Fixed n → ⊥) → Bare (to_z w32 (of_z w32 t)) ≡ bare_form t
+  form-else int fixd = rest c int fixd ∙ form-by refl
     where
-      rest : (c : Class) → OneOf others (tag_of C.the_type c) → Bare (to_z w32 (of_z w32 t)) ≡ form_for c (to_z w32 (of_z w32 t))
-      rest Refused h = refl
-      rest Small h = refl
-      rest (Int b) h = absurd (miss others 2 tt h)
-      rest (Fixed n) h = absurd (miss others 3 tt h)
-      rest Char h = refl
-      rest (Parted d) h = refl
-      rest (Texted chars) h = refl
-      rest (Holder s) h = refl
-      rest Identity h = refl
-      rest Reference h = refl
+      rest : (c : Class) → ((b : Bits) → c ≡ Int b → ⊥) → ((n : ℕ) → c ≡ Fixed n → ⊥) → Bare (to_z w32 (of_z w32 t)) ≡ form_for c (to_z w32 (of_z w32 t))
+      rest Refused int fixd = refl
+      rest Small int fixd = refl
+      rest (Int b) int fixd = absurd (int b refl)
+      rest (Fixed n) int fixd = absurd (fixd n refl)
+      rest Char int fixd = refl
+      rest (Parted d) int fixd = refl
+      rest (Texted chars) int fixd = refl
+      rest (Holder s) int fixd = refl
+      rest Identity int fixd = refl
+      rest Reference int fixd = refl
