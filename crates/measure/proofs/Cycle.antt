@@ -122,7 +122,7 @@ module _ {o : List ℕ} {w : Form} {at : ℕ} {x : Typed} (typed : TypedAt o w a
   deep-typed {from} {n} {z} {c} {once} h e g k u d = record {
     refuses = λ f s v.
         (headed h (subst (TypedAt o w at) e typed) f s).judges (data_of 0) v
-        ∙ (subst (λ (b : Bool). TooDeep c b n) u d).refuses z (own_of w) at (stand o from v) (subst (λ (t : ℤ). ClassOf t c) (held (record { sfits = g })) k).is;
+        ∙ (subst (λ (b : Bool). TooDeep c b n) u d).refuses z (own_of w) at (stand o from v) (subst (λ (t : ℤ). ClassOf t c) (held {w = w32} (record { sfits = g })) k).is;
   }
 
 -- ---- the value reader

@@ -1,6 +1,6 @@
 -- What the answers of the code say of a value: how it stands, what its data are, and what was counted.
 use Rattle.std.specs.Prelude.{◌≡◌, Bool, true, false, List, ℕ, suc, ◌+◌, ◌^◌, ◌<◌, ◌≤◌, length, ℤ}
-use Rattle.reading.specs.Reading.{Out, got, stop, Reader, stand, ◌>>=◌, ◌>>◌, require}
+use Rattle.reading.specs.Reading.{Out, got, stop, Reader, stand, ◌>>◌, require}
 use Rattle.format.specs.Types.{kind_of}
 use Rattle.format.specs.Values.{Value, whole, bare, Inner, may, each, data_of}
 use Rattle.format.specs.Values.{Form as Forms}
