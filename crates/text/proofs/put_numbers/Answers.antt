@@ -23,10 +23,10 @@ pub bounds-values-i : goal.bounds-values-i
 bounds-values-i c = c.loop-i-test.true
 
 pub put_number-next-requires : goal.put_number-next-requires
-put_number-next-requires c = rw (to_z-of_z w64 _ (record { sfits = c.put_number-arg-in-loop-i-1.given })) (left_after c.loop-i.invariant.1 _ _ _ (numbers-at _ _ c.loop-i-test.true) (omega arith))
+put_number-next-requires c = rw (to_z-of_z w64 _ (search rules)) (left_after c.loop-i.invariant.1 _ _ _ (numbers-at _ _ c.loop-i-test.true) (omega arith))
 
 pub loop-i-preserved : goal.loop-i-preserved
-loop-i-preserved c = (omega arith, left-part (left_one c.loop-i.invariant.1 (numbers-at _ _ c.loop-i-test.true)) _ refl (rw (to_z-of_z w64 _ (record { sfits = c.put_number-arg-in-loop-i-1.given })) at c.put_number-next.ensures))
+loop-i-preserved c = (omega arith, left-part (left_one c.loop-i.invariant.1 (numbers-at _ _ c.loop-i-test.true)) _ refl (rw (to_z-of_z w64 _ (search rules)) at c.put_number-next.ensures))
 
 pub bounds-out-next-2 : goal.bounds-out-next-2
 bounds-out-next-2 c = left-place c.loop-i.invariant.1 (numbers-end _ _ c.loop-i-test.false)
