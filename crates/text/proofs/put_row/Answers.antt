@@ -1,5 +1,5 @@
 use mathlib.Core.Path.{refl}
-use Rattle.text.proofs.Signs.{wide, wide_fits}
+use Rattle.text.proofs.Signs.{wide}
 use Rattle.text.proofs.Writes.{left-all, left-fits}
 use Rattle.text.proofs.Lines.{row-begun}
 use borrow.Author.Rules.{rules}
