@@ -1,13 +1,13 @@
 -- The sort of a row, by the ranges of the type identifier.
 use mathlib.Core.Path.{◌≡◌, refl, ap, ◌∙◌}
 use mathlib.Core.Bool.{Bool, true, false, cond}
-use mathlib.Core.List.{map}
-use Prim.Native.Nat.{ℕ, zero, suc, ◌<◌}
+use mathlib.Core.List.{List, [], ◌∷◌, map}
+use Prim.Native.Nat.{ℕ, zero, suc, ◌<◌, ◌^◌}
 use native.Mathlib.Omega.{arith}
 use lib.Dec.{ltb}
 use lib.ListN.{get_or, get_or-map}
 use lib.IntN.{ℤ, pos, negsuc, ◌-ℤ◌}
-use lib.Signed.{lt_z}
+use lib.Signed.{mag, lt_z}
 use borrow.Author.Tests.{ltb-true, ltb-false, lt-ltb, le-ltb}
 use mir.Syntax.{w32, w64}
 use mir.Val.{SFits}
@@ -39,6 +39,33 @@ least-listed n = get_or-map (λ k. lowest k.datum) table n uncarried
 
 pub most-listed : (n : ℕ) → get_or (map (λ k. highest k.datum) table) n (pos 0) ≡ highest (get_or table n uncarried).datum
 most-listed n = get_or-map (λ k. highest k.datum) table n uncarried
+
+-- the two tables of numbers hold numbers of 64 bits
+
+small : ℤ → Bool
+small z = ltb (mag z) (2 ^ 63)
+
+all_small : List ℤ → Bool
+all_small [] = true
+all_small (z ∷ l) = cond (small z) (all_small l) false
+
+read-fits : (l : List ℤ) (n : ℕ) → all_small l ≡ true → SFits w64 (get_or l n (pos 0))
+unfolding small all_small
+read-fits [] n h = record { sfits = omega arith }
+read-fits (z ∷ l) n h = by (ltb (mag z) (2 ^ 63)) refl h (λ m. read-fits l m) n
+  where
+    by : (t : Bool) → ltb (mag z) (2 ^ 63) ≡ t → cond t (all_small l) false ≡ true → ((m : ℕ) → all_small l ≡ true → SFits w64 (get_or l m (pos 0))) → (n : ℕ) → SFits w64 (get_or (z ∷ l) n (pos 0))
+    by true e g more zero = record { sfits = ltb-true (mag z) (2 ^ 63) e }
+    by true e g more (suc n) = more n g
+    by false e g more n = let x : ◌≡◌ {A = ℕ} 0 1 = cc in absurd (omega arith)
+
+pub least-fits : (n : ℕ) → SFits w64 (get_or (map (λ k. lowest k.datum) table) n (pos 0))
+unfolding small all_small
+least-fits n = read-fits (map (λ k. lowest k.datum) table) n refl
+
+pub most-fits : (n : ℕ) → SFits w64 (get_or (map (λ k. highest k.datum) table) n (pos 0))
+unfolding small all_small
+most-fits n = read-fits (map (λ k. highest k.datum) table) n refl
 
 -- ---- a type's range and sort are what the row is judged by
 

@@ -1,18 +1,15 @@
 -- Ranges of numbers.
-use mathlib.Core.Path.{◌≡◌, refl, sym, ap, ◌∙◌}
+use mathlib.Core.Path.{◌≡◌, refl, sym, ◌∙◌}
 use mathlib.Core.Bool.{Bool, true, false, cond, ◌&&◌}
 use Prim.Native.Nat.{ℕ, zero, suc, ◌-◌, ◌^◌, ◌<◌}
 use native.Mathlib.Omega.{arith}
 use native.Mathlib.Nat.{one-le-pow}
 use lib.Dec.{ltb, leb, leb-zero}
 use lib.IntN.{ℤ, pos, negsuc}
-use lib.Signed.{mag, lt_z, le_z, non_neg}
-use borrow.Author.Tests.{ltb-true, ltb-false, leb-true, lt-leb, le-leb, le-ltb}
-use mir.Syntax.{w64}
-use mir.Val.{to_z, of_z, SFits}
-use Rattle.integer.proofs.Signs.{held}
+use lib.Signed.{mag, le_z, non_neg}
+use borrow.Author.Tests.{ltb-true, ltb-false, lt-leb, le-leb, le-ltb}
 use Rattle.format.specs.Types.{Datum, packed, fixed, code, amount, implied}
-use Rattle.format.specs.Data.{within, eq_z}
+use Rattle.format.specs.Data.{within}
 use Rattle.format.specs.Asking.{possible}
 use Rattle.ask.specs.Sorts.{lowest_below, highest_below, lowest, highest}
 
@@ -61,53 +58,3 @@ ranged (fixed n) z = by (ltb n 8)
 ranged code z = counted (2 ^ 16) (omega arith) z
 ranged amount z = counted (2 ^ 31) (omega arith) z
 ranged (implied y) z = and_comm (le_z y z) (le_z z y)
-
--- ---- the tests of `between`
-
-pub under : (low high z : ℤ) → lt_z z low ≡ true → within low high z ≡ false
-under (pos a) high (pos n) h = rw (lt-leb a n (ltb-true n a h))
-under (pos a) high (negsuc n) h = refl
-under (negsuc a) high (pos n) h = let z : ◌≡◌ {A = ℕ} 0 1 = cc in absurd (omega arith)
-under (negsuc a) high (negsuc n) h = rw (lt-leb n a (ltb-true a n h))
-
-pub above : (low high z : ℤ) → lt_z z low ≡ false → le_z z high ≡ within low high z
-above (pos a) high (pos n) h = rw (le-leb a n (ltb-false n a h))
-above (pos a) high (negsuc n) h = let z : ◌≡◌ {A = ℕ} 0 1 = cc in absurd (omega arith)
-above (negsuc a) high (pos n) h = refl
-above (negsuc a) high (negsuc n) h = rw (le-leb n a (ltb-false a n h))
-
--- what `between` answers, of numbers as the code holds them
-pub told : {r b : Bool} {least most z : ℤ} → SFits w64 least → SFits w64 most → SFits w64 z
-    → r ≡ within (to_z w64 (of_z w64 least)) (to_z w64 (of_z w64 most)) (to_z w64 (of_z w64 z)) → r ≡ b → within least most z ≡ b
-told f g h e k = sym (rw (held f, held g, held h) at e) ∙ k
-
--- ---- equality
-
-same-zero : (a b : ℕ) → leb a b && leb b a ≡ true → a ≡ b
-same-zero a b = by (leb a b) refl
-  where
-    by : (t : Bool) → leb a b ≡ t → t && leb b a ≡ true → a ≡ b
-    by true e g = omega (arith, leb-true a b e, leb-true b a g)
-    by false e g = let z : ◌≡◌ {A = ℕ} 0 1 = cc in absurd (omega arith)
-
-eq_z-true : (a b : ℤ) → eq_z a b ≡ true → a ≡ b
-eq_z-true (pos a) (pos b) h = ap pos (same-zero a b h)
-eq_z-true (pos a) (negsuc b) h = let z : ◌≡◌ {A = ℕ} 0 1 = cc in absurd (omega arith)
-eq_z-true (negsuc a) (pos b) h = let z : ◌≡◌ {A = ℕ} 0 1 = cc in absurd (omega arith)
-eq_z-true (negsuc a) (negsuc b) h = ap negsuc (sym (same-zero b a h))
-
-eq_z-refl : (a : ℤ) → eq_z a a ≡ true
-eq_z-refl (pos a) = rw (le-leb a a (omega arith))
-eq_z-refl (negsuc a) = rw (le-leb a a (omega arith))
-
--- tests of the code for one number, whose facts are of the bits
-module _ (z k : ℤ) where
-  pub eq_yes : SFits w64 z → SFits w64 k → of_z w64 z ≡ of_z w64 k → eq_z z k ≡ true
-  eq_yes f g h = let e : z ≡ k = sym (held f) ∙ ap (to_z w64) h ∙ held g in rw e (eq_z-refl k)
-
-  pub eq_no : (of_z w64 z ≡ of_z w64 k → ⊥) → eq_z z k ≡ false
-  eq_no h = by (eq_z z k) refl
-    where
-      by : (t : Bool) → eq_z z k ≡ t → t ≡ false
-      by true e = absurd (h (ap (of_z w64) (eq_z-true z k e)))
-      by false e = refl

@@ -1,8 +1,7 @@
 use mathlib.Core.Path.{◌∙◌}
 use Rattle.integer.proofs.Signs.{held}
-use Rattle.ask.proofs.Judging.{least-listed}
-use borrow.Author.Rules.{rules}
+use Rattle.ask.proofs.Judging.{least-listed, least-fits}
 use Rattle.ask.proofs.least_at.Goals as goal
 
 pub returns : goal.returns
-returns c = held (record { sfits = c.result-1.given }) ∙ least-listed c.args.n
+returns c = held (least-fits c.args.n) ∙ least-listed c.args.n

@@ -1,8 +1,7 @@
 use mathlib.Core.Path.{◌∙◌}
 use Rattle.integer.proofs.Signs.{held}
-use Rattle.ask.proofs.Judging.{most-listed}
-use borrow.Author.Rules.{rules}
+use Rattle.ask.proofs.Judging.{most-listed, most-fits}
 use Rattle.ask.proofs.most_at.Goals as goal
 
 pub returns : goal.returns
-returns c = held (record { sfits = c.result-1.given }) ∙ most-listed c.args.n
+returns c = held (most-fits c.args.n) ∙ most-listed c.args.n

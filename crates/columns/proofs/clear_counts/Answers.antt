@@ -1,7 +1,4 @@
-use Prim.Native.Nat.{◌-◌}
-use borrow.Author.Rules.{rules}
-use Rattle.columns.proofs.Cleared.{Clearing, clearing-first, clearing-more, clearing-done}
-use Rattle.columns.proofs.clear_counts.Lts as lts
+use Rattle.columns.proofs.Cleared.{clearing-first, clearing-more, clearing-done}
 use Rattle.columns.proofs.clear_counts.Goals as goal
 
 pub loop-i-init : goal.loop-i-init

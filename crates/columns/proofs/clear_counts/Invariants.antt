@@ -1,7 +1,5 @@
 use Prim.Native.Nat.{◌-◌}
-use borrow.Author.Rules.{rules}
-use Rattle.columns.proofs.Cleared.{Clearing, clearing-first, clearing-more, clearing-done}
-use Rattle.columns.proofs.clear_counts.Lts as lts
+use Rattle.columns.proofs.Cleared.{Clearing}
 use Rattle.columns.proofs.clear_counts.Given as goal
 
 abbrev pub invariant-loop-i : goal.invariant-loop-i

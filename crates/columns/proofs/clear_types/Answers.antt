@@ -1,8 +1,4 @@
-use Prim.Native.Nat.{◌-◌}
-use borrow.Author.Rules.{rules}
-use lib.IntN.{pos}
-use Rattle.columns.proofs.Cleared.{Clearing, clearing-first, clearing-more, clearing-done}
-use Rattle.columns.proofs.clear_types.Lts as lts
+use Rattle.columns.proofs.Cleared.{clearing-first, clearing-more, clearing-done}
 use Rattle.columns.proofs.clear_types.Goals as goal
 
 pub loop-i-init : goal.loop-i-init

@@ -1,8 +1,6 @@
 use Prim.Native.Nat.{◌-◌}
-use borrow.Author.Rules.{rules}
 use lib.IntN.{pos}
-use Rattle.columns.proofs.Cleared.{Clearing, clearing-first, clearing-more, clearing-done}
-use Rattle.columns.proofs.clear_types.Lts as lts
+use Rattle.columns.proofs.Cleared.{Clearing}
 use Rattle.columns.proofs.clear_types.Given as goal
 
 abbrev pub invariant-loop-i : goal.invariant-loop-i

@@ -1,6 +1,5 @@
 use native.Mathlib.Omega.{arith}
 use Rattle.text.proofs.Digits.{low_digit, high_digit, low_value, high_value}
-use borrow.Author.Rules.{rules}
 use Rattle.text.proofs.digit_of.Goals as goal
 
 pub overflow_sub-result : goal.overflow_sub-result

@@ -1,5 +1,5 @@
 use native.Mathlib.Omega.{arith}
-use Rattle.text.proofs.Decimal.{Counted, counted-first, counted-again, counted-last}
+use Rattle.text.proofs.Decimal.{counted-first, counted-again, counted-last}
 use Rattle.text.proofs.digits_of.Goals as goal
 
 pub loop-m-init : goal.loop-m-init

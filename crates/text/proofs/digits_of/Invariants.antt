@@ -1,5 +1,4 @@
-use native.Mathlib.Omega.{arith}
-use Rattle.text.proofs.Decimal.{Counted, counted-first, counted-again, counted-last}
+use Rattle.text.proofs.Decimal.{Counted}
 use Rattle.text.proofs.digits_of.Given as goal
 
 abbrev pub invariant-loop-m : goal.invariant-loop-m

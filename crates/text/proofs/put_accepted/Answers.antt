@@ -1,5 +1,4 @@
 use Rattle.text.proofs.Signs.{wide, wide_fits}
-use borrow.Author.Rules.{rules}
 use Rattle.text.proofs.put_accepted.Goals as goal
 
 pub overflow_cast-conversation : goal.overflow_cast-conversation

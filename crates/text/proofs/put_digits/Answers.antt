@@ -1,6 +1,5 @@
 use native.Mathlib.Omega.{arith}
-use borrow.Author.Rules.{rules}
-use Rattle.text.proofs.Decimal.{Behind, behind-first, behind-again, behind-last, behind-inner, behind-kept, decimal-some}
+use Rattle.text.proofs.Decimal.{behind-first, behind-again, behind-last, behind-inner, decimal-some}
 use Rattle.text.proofs.put_digits.Goals as goal
 
 pub overflow_add-end : goal.overflow_add-end

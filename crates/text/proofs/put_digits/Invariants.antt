@@ -1,6 +1,4 @@
-use native.Mathlib.Omega.{arith}
-use borrow.Author.Rules.{rules}
-use Rattle.text.proofs.Decimal.{Behind, behind-first, behind-again, behind-last, behind-inner, behind-kept, decimal-some}
+use Rattle.text.proofs.Decimal.{Behind}
 use Rattle.text.proofs.put_digits.Given as goal
 
 abbrev pub invariant-loop-m : goal.invariant-loop-m

@@ -1,12 +1,9 @@
-use mathlib.Core.Path.{◌∙◌}
 use native.Mathlib.Omega.{arith}
-use lib.ListN.{length-set}
 use mir.Syntax.{w64}
 use Rattle.integer.proofs.Signs.{down-read, up-read, cast-read}
 use Rattle.integer.proofs.Writes.{wrote-more, room-one}
 use Rattle.text.proofs.Writes.{room_after}
 use Rattle.text.proofs.Signs.{minus-size, minus-spelt, plus-spelt}
-use borrow.Author.Rules.{rules}
 use Rattle.text.proofs.put_number.Goals as goal
 
 pub bounds-out-at : goal.bounds-out-at

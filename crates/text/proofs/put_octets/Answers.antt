@@ -1,8 +1,5 @@
-use Prim.Native.Nat.{◌≤◌, ◌-◌}
 use native.Mathlib.Omega.{arith}
-use lib.ListN.{drop}
-use Rattle.format.specs.Desk.{octets_of}
-use Rattle.text.proofs.Writes.{Left, left-all, left_one, left-place, left-none}
+use Rattle.text.proofs.Writes.{left-all, left_one, left-place, left-none}
 use Rattle.format.specs.Desk.{is_digit}
 use Rattle.format.proofs.Every.{every-at}
 use Rattle.text.proofs.Digits.{octets-more, octets-end}

@@ -1,11 +1,7 @@
 use Prim.Native.Nat.{◌≤◌, ◌-◌}
-use native.Mathlib.Omega.{arith}
 use lib.ListN.{drop}
 use Rattle.format.specs.Desk.{octets_of}
-use Rattle.text.proofs.Writes.{Left, left-all, left_one, left-place, left-none}
-use Rattle.format.specs.Desk.{is_digit}
-use Rattle.format.proofs.Every.{every-at}
-use Rattle.text.proofs.Digits.{octets-more, octets-end}
+use Rattle.text.proofs.Writes.{Left}
 use Rattle.text.proofs.put_octets.Given as goal
 
 abbrev pub invariant-loop-i : goal.invariant-loop-i

@@ -3,7 +3,6 @@ use native.Mathlib.Omega.{arith}
 use lib.ListN.{length-set}
 use Rattle.text.proofs.Writes.{left-place, left-within, left_one, left-fits, left-none}
 use Rattle.text.proofs.Lines.{told-room, told-fits, told-first, told-second}
-use borrow.Author.Rules.{rules}
 use Rattle.text.proofs.put_told.Goals as goal
 
 pub bounds-out-at-2 : goal.bounds-out-at-2
