@@ -1,16 +1,21 @@
 #![tactic(auto)]
 
-ghost use Rattle.std.specs.Prelude.{◌≤◌, length};
+ghost use Rattle.std.specs.Prelude.{◌≡◌, ◌≤◌, length, take, drop, IfOk, OnErr};
+ghost use Rattle.std.specs.Io.KnownBytes.{ReadConsumes};
 ghost use Rattle.input.specs.Input.{Came, Moved, Shortened};
 
-// Reads standard input once, to after the octets that are held, and gives how many came; 0 at its end.
-pub fn read_more(src: &mut [u8], held: usize) -> usize
+use std::io;
+use std::io::Read;
+
+// Reads the input once, to after the octets that are held, and gives how many came; 0 at its end. An error leaves what is held.
+pub fn read_more<R: Read>(input: &mut R, src: &mut [u8], held: usize) -> io::Result<usize>
     requires { held ≤ length src.old }
-    ensures { Came src.old held result src.new }
+    ensures ok { IfOk result (λ n. Came src.old held n src.new) }
+    ensures err { OnErr result (take held src.new ≡ take held src.old) }
+    ensures len { length src.new ≡ length src.old }
+    ensures bytes { ReadConsumes (R.remaining input.old) (R.remaining input.new) result (drop held src.new) }
 {
-    let part = &mut src[held..];
-    let got = libc::read(libc::STDIN_FILENO, part);
-    io::count(got, part)
+    input.read(&mut src[held..])
 }
 
 // Moves what stands from `from` to `end` to the front, and gives how many octets that is.
