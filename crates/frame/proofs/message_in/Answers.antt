@@ -1,6 +1,5 @@
 use Rattle.frame.proofs.Frames.{message-refused, message-left, message-rows, message-alien}
 use Rattle.integer.proofs.Signs.{held}
-use borrow.Author.Rules.{rules}
 use Rattle.frame.proofs.message_in.Goals as goal
 
 pub returns-then-next-src : goal.returns-then-next-src

@@ -1,5 +1,4 @@
 use Rattle.frame.proofs.Frames.{opened-faulty, opened-negative, opened-short, opened-over, opened, next-within}
-use borrow.Author.Rules.{rules}
 use Rattle.frame.proofs.open_frame.Goals as goal
 
 pub overflow_sub-left : goal.overflow_sub-left

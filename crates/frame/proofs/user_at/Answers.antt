@@ -1,5 +1,4 @@
 use Rattle.frame.proofs.Frames.{user-faulty, user-negative, user-positive}
-use borrow.Author.Rules.{rules}
 use Rattle.frame.proofs.user_at.Goals as goal
 
 pub returns-in-Faulty : goal.returns-in-Faulty
