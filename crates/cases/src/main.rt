@@ -85,7 +85,7 @@ fn answer_all(
 {
     let n = src.len();
     let mut used = 0;
-    let mut feed = bytes::scan::find(src, 0, n, b'\n');
+    let mut feed = octets::find(src, 0, n, b'\n');
     while feed < n {
         answer_case(
             &src[used..feed],
@@ -103,7 +103,7 @@ fn answer_all(
             out,
         );
         used = feed + 1;
-        feed = bytes::scan::find(src, used, n, b'\n');
+        feed = octets::find(src, used, n, b'\n');
     }
     used
 }

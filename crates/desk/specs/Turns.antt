@@ -1,14 +1,12 @@
 -- What a turn leaves.
-use Rattle.std.specs.Prelude.{ℕ, ◌≤◌, ◌<◌}
-use Rattle.desk.specs.declared.Listed.{Listed}
-use Rattle.desk.specs.declared.Listed.TheVariants.{Used, Failed}
+use Rattle.std.specs.Prelude.{ℕ, ◌≤◌, ◌<◌, Result, Ok, Err}
 use Rattle.desk.specs.declared.Turn.{Turn}
 use Rattle.desk.specs.declared.Turn.TheVariants.{Held, Ended}
 
 -- what is listed was given
-abbrev pub Within : ℕ → Listed → Type 0
-Within n (Used k) = k ≤ n
-Within n Failed = Unit {0}
+abbrev pub Within : {E : Type 0} → ℕ → Result ℕ E → Type 0
+Within n (Ok k) = k ≤ n
+Within n (Err e) = Unit {0}
 
 -- there is room for more
 abbrev pub Going : ℕ → Turn → Type 0

@@ -1,20 +1,15 @@
 #![tactic(auto)]
 
 // The desk: lists the frames of lines, from standard input to standard output.
-ghost use Rattle.std.specs.Prelude.{◌≤◌, ◌<◌, length};
+ghost use Rattle.std.specs.Prelude.{◌≤◌, ◌<◌, length, IfOk};
 ghost use Rattle.desk.specs.Turns.{Within, Going};
 
 use reading::Refusal;
+use std::io;
+use std::io::{Read, Write};
 
-// How many octets are listed, or that a write failed.
-#[derive(Clone, Copy)]
-enum Listed {
-    Used(usize),
-    Failed,
-}
-
-// Lists the whole lines among the octets, a run of them at a time.
-fn list_all(src: &[u8], out: &mut [u8]) -> Listed
+// Lists the whole lines among the octets, a run of them at a time, and gives how many octets are listed.
+fn list_all<W: Write>(output: &mut W, src: &[u8], out: &mut [u8]) -> io::Result<usize>
     ensures { Within (length src.now) result }
 {
     let mut at = 0;
@@ -25,16 +20,14 @@ fn list_all(src: &[u8], out: &mut [u8]) -> Listed
         if used == 0 {
             break;
         }
-        if !io::write_all(libc::STDOUT_FILENO, &out[..written]) {
-            return Listed::Failed;
-        }
+        output.write_all(&out[..written])?;
         at += used;
     }
-    Listed::Used(at)
+    Ok(at)
 }
 
 // A last line without a line feed is 17.
-fn refuse_last(out: &mut [u8])
+fn refuse_last<W: Write>(output: &mut W, out: &mut [u8]) -> io::Result<()>
     requires { 32768 ≤ length out.old }
 {
     let written = text::put_refused(
@@ -45,7 +38,7 @@ fn refuse_last(out: &mut [u8])
             number: 17,
         },
     );
-    io::write_all(libc::STDOUT_FILENO, &out[..written]);
+    output.write_all(&out[..written])
 }
 
 // What a turn leaves: a part of a line, of so many octets, at the front; or that all is done.
@@ -56,38 +49,43 @@ enum Turn {
 }
 
 // Reads once, and lists the whole lines that are there.
-fn take_turn(src: &mut [u8], out: &mut [u8], held: usize) -> Turn
+fn take_turn<R: Read, W: Write>(
+    input: &mut R,
+    output: &mut W,
+    src: &mut [u8],
+    out: &mut [u8],
+    held: usize,
+) -> io::Result<Turn>
     requires { (held < length src.old) × (2 ≤ length src.old) × (32768 ≤ length out.old) }
-    ensures { Going (length src.old) result }
+    ensures { IfOk result (Going (length src.old)) }
 {
-    let came = input::read_more(src, held);
+    let came = input::read_more(input, src, held)?;
     if came == 0 {
         if 0 < held {
-            refuse_last(out);
+            refuse_last(output, out)?;
         }
-        return Turn::Ended;
+        return Ok(Turn::Ended);
     }
     let end = held + came;
-    match list_all(&src[..end], out) {
-        Listed::Failed => Turn::Ended,
-        Listed::Used(used) => {
-            let rest = input::keep(src, used, end);
-            Turn::Held(input::shorten(src, rest))
-        }
-    }
+    let used = list_all(output, &src[..end], out)?;
+    let rest = input::keep(src, used, end);
+    Ok(Turn::Held(input::shorten(src, rest)))
 }
 
 // A proved loop has to end, and nothing says that the input does: it counts its turns down, from a number that no run uses up.
-fn main() {
-    let mut src = io::large_buffer();
-    let mut out = io::large_buffer();
+fn main(rt: HostRuntime) -> io::Result<()> {
+    let mut input = rt.stdin();
+    let mut output = rt.stdout();
+    let mut src = [0; 65536];
+    let mut out = [0; 65536];
     let mut held = 0;
     let mut turns = u64::MAX;
     while turns > 0 {
-        match take_turn(&mut src, &mut out, held) {
-            Turn::Ended => return,
+        match take_turn(&mut input, &mut output, &mut src, &mut out, held)? {
+            Turn::Ended => return Ok(()),
             Turn::Held(n) => held = n,
         }
         turns -= 1;
     }
+    Ok(())
 }

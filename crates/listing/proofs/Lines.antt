@@ -9,7 +9,7 @@ use lib.ListN.{length, get_or, take, drop, length-drop, length-append, take-appe
 use lib.Seq.{length-take-le, take_all, take-append_seam, get_or-append_seam, get_or-drop}
 use lib.Dec.{eqb}
 use borrow.Author.Tests.{eqb-true}
-use Rattle.bytes.specs.Bytes.{slice, index_after, index_of}
+use Rattle.octets.specs.Octets.{slice, index_after, index_of}
 use Rattle.format.specs.Values.{has}
 use Rattle.format.specs.Desk.{line_text, desk_from, desk}
 use Rattle.integer.specs.Writes.{Wrote}

@@ -114,7 +114,7 @@ pub fn list_lines(src: &[u8], out: &mut [u8]) -> Progress
     let mut used = 0;
     let mut written = 0;
     while 32768 <= out.len() - written {
-        let end = bytes::scan::find(src, used, n, b'\n');
+        let end = octets::find(src, used, n, b'\n');
         if end == n {
             break;
         }

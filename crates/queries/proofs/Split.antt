@@ -7,7 +7,7 @@ use native.Mathlib.Omega.{arith}
 use lib.ListN.{length, get_or, take, drop, length-drop}
 use lib.Seq.{take_all, drop-drop}
 use lib.Dec.{eqb}
-use Rattle.bytes.specs.Bytes.{slice, index_after, index_of}
+use Rattle.octets.specs.Octets.{slice, index_after, index_of}
 use Rattle.queries.specs.declared.Number.{Number}
 use Rattle.queries.specs.declared.Numeral.TheVariants.{Says, Not}
 use Rattle.queries.specs.declared.Word.{Word}

@@ -113,7 +113,7 @@ fn number_at(line: &[u8], at: usize) -> NumberField
     ensures { NumberAt line.now at result }
 {
     let n = line.len();
-    let end = bytes::scan::find(line, at, n, b' ');
+    let end = octets::find(line, at, n, b' ');
     if n <= end {
         return NumberField::Not;
     }
@@ -200,7 +200,7 @@ fn last_word(line: &[u8], at: usize) -> Word
     ensures { result ≡ last_word (fields_of (drop at line.now)) }
 {
     let n = line.len();
-    let end = bytes::scan::find(line, at, n, b' ');
+    let end = octets::find(line, at, n, b' ');
     if end < n {
         return Word::Not;
     }
