@@ -12,7 +12,7 @@ use Rattle.integer.specs.Packed.{spell_int}
 use Rattle.integer.proofs.Spelling.{Spelt, one, more, spelt}
 use Rattle.format.specs.Types.{Datum, packed, fixed, code, amount, implied, Parts, date, time, dateTime, Holds, nothing, values, couples, indexes, properties, parts, Kind, kind_of}
 use Rattle.format.specs.Data.{usual, unsigned, spell_number}
-use Rattle.format.specs.Values.{Head, Children, empty, child, child_of, Value, value, Form, whole, bare, formed, Rule, counted, rising, moments, rule_by, rule_of, pieces, each}
+use Rattle.format.specs.Values.{Head, Children, empty, child, child_of, Value, value, Form, whole, bare, formed, Rule, counted, rising, moments, rule_by, rule_of, pieces}
 use Rattle.format.specs.Spelling.{fore, indexed, spell_children, spell}
 use Rattle.format.specs.Rows.{count, rows}
 use Rattle.format.specs.Grammar.{Number, Element, Good, Formed, Allows, next, Moment, Held, Fits, Shaped, Valid}

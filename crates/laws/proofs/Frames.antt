@@ -16,7 +16,7 @@ use Rattle.reading.specs.Reading.{Env, State, got, ◌>>=◌, return, require, h
 use Rattle.reading.proofs.Sound.{Octets}
 use Rattle.integer.specs.Packed.{wide32, integer, spell_int}
 use Rattle.integer.proofs.Laws.{integer-leaf, integer-only, enough32, integer-does}
-use Rattle.format.specs.Values.{Value, empty, child_of, outermost}
+use Rattle.format.specs.Values.{Value, empty, child_of}
 use Rattle.format.specs.Spelling.{spell}
 use Rattle.format.specs.Message.{ok, most_octets, whole_message, message, Frame, is_user, whole_frame, frame}
 use Rattle.format.specs.Exchange.{afresh}

@@ -8,12 +8,11 @@ use lib.ListN.{length}
 use lib.IntN.{ℤ, pos, negsuc}
 use lib.Signed.{mag}
 use borrow.Author.Tests.{ltb-true, leb-true, eq-eqb, ne_eqb, not-true}
-use Rattle.reading.specs.Reading.{Env, State, names}
+use Rattle.reading.specs.Reading.{Env, State}
 use Rattle.reading.proofs.Sound.{Sound, s-bind, s-stop, s-either, s-weaken, s-here, s-names, s-require, s-ret, s-rename, s-must, s-leaf}
 use Rattle.integer.specs.Packed.{wide32, spell_int}
 use Rattle.integer.proofs.Laws.{integer-leaf}
 use Rattle.format.specs.Types.{Names, silent, gives, refers, kind_of}
-use Rattle.format.specs.Data.{number}
 use Rattle.format.specs.Values.{Head, Children, empty, child_of, Value, Form, whole, bare, Rule, counted, rising, moments, label, rule_of, most_identities, has, begun, closed, allow, enter, leave, Inner, may, each, turns, pairs, children, front, levels, data_of, outermost}
 use Rattle.format.specs.Spelling.{identifier, data_by, fore, indexed, index, spell_children, spell}
 use Rattle.format.specs.Grammar.{Int32, Good, Whole, Formed, Allows, next, Held, Fits, Shaped, Leveled, Deep, Allowed, after, Named}

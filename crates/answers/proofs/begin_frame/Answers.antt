@@ -1,8 +1,6 @@
 use mir.Syntax.{w32}
 use Rattle.integer.proofs.Signs.{held}
 use Rattle.answers.proofs.Replies.{frame-no, frame-begins}
-use borrow.Author.Rules.{rules}
-use Rattle.answers.proofs.begin_frame.Lts as lts
 use Rattle.answers.proofs.begin_frame.Goals as goal
 
 pub put_no-requires : goal.put_no-requires

@@ -1,9 +1,7 @@
 use mathlib.Core.Path.{sym}
 use native.Mathlib.Omega.{arith}
 use lib.Seq.{length-take-le}
-use borrow.Author.Rules.{rules}
 use Rattle.answers.proofs.Replies.{begins-alone, begins-same}
-use Rattle.answers.proofs.begin_line.Lts as lts
 use Rattle.answers.proofs.begin_line.Goals as goal
 
 pub case_octets-requires : goal.case_octets-requires

@@ -1,6 +1,4 @@
 use Rattle.answers.proofs.Replies.{message-no, message-rows}
-use borrow.Author.Rules.{rules}
-use Rattle.answers.proofs.begin_message.Lts as lts
 use Rattle.answers.proofs.begin_message.Goals as goal
 
 pub put_no-requires : goal.put_no-requires

@@ -1,6 +1,4 @@
-use borrow.Author.Rules.{rules}
 use Rattle.answers.proofs.Replies.{begins-alone, begins-same, octets-message, octets-frame, octets-alone}
-use Rattle.answers.proofs.begin_octets.Lts as lts
 use Rattle.answers.proofs.begin_octets.Goals as goal
 
 pub begin_message-requires : goal.begin_message-requires

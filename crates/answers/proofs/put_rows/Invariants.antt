@@ -1,11 +1,6 @@
 use Prim.Native.Nat.{◌≤◌, ◌-◌}
-use native.Mathlib.Omega.{arith}
-use Rattle.text.proofs.Writes.{wrote_kept}
 use Rattle.columns.specs.Columns.{columns}
-use Rattle.records.proofs.Records.{row_room}
 use Rattle.answers.specs.Replies.{PartsPut}
-use Rattle.answers.proofs.Parts.{parts_none, part_room, parts_again, parts_all}
-use Rattle.answers.proofs.put_rows.Lts as lts
 use Rattle.answers.proofs.put_rows.Given as goal
 
 abbrev pub invariant-loop-i : goal.invariant-loop-i

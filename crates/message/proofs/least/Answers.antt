@@ -1,5 +1,4 @@
 use Rattle.message.proofs.Messages.{least_first, least-second}
-use Rattle.message.proofs.least.Lts as lts
 use Rattle.message.proofs.least.Goals as goal
 
 pub returns-then-a-b : goal.returns-then-a-b

@@ -1,7 +1,5 @@
 use mathlib.Core.Path.{refl}
 use Rattle.message.proofs.Messages.{least_by}
-use borrow.Author.Rules.{rules}
-use Rattle.message.proofs.least_of.Lts as lts
 use Rattle.message.proofs.least_of.Goals as goal
 
 pub returns : goal.returns

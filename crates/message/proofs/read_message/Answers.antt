@@ -1,6 +1,4 @@
 use Rattle.message.proofs.Messages.{few, read-refused, read-rows, read_short}
-use borrow.Author.Rules.{rules}
-use Rattle.message.proofs.read_message.Lts as lts
 use Rattle.message.proofs.read_message.Goals as goal
 
 pub store_rows-requires : goal.store_rows-requires

@@ -1,6 +1,4 @@
 use Rattle.message.proofs.Messages.{can-fill, no_room, stored, is-shortest}
-use borrow.Author.Rules.{rules}
-use Rattle.message.proofs.store_rows.Lts as lts
 use Rattle.message.proofs.store_rows.Goals as goal
 
 pub returns-then-room-n : goal.returns-then-room-n

@@ -1,8 +1,5 @@
 use Prim.Native.Nat.{◌≤◌, ◌-◌}
-use native.Mathlib.Omega.{arith}
-use borrow.Author.Rules.{rules}
-use Rattle.records.proofs.Records.{Others, others-none, others-more, label-here, label-nowhere}
-use Rattle.records.proofs.find.Lts as lts
+use Rattle.records.proofs.Records.{Others}
 use Rattle.records.proofs.find.Given as goal
 
 abbrev pub invariant-loop-i : goal.invariant-loop-i

@@ -2,8 +2,6 @@ use mathlib.Core.Path.{◌∙◌}
 use Rattle.columns.specs.Columns.{columns}
 use Rattle.message.proofs.Messages.{is-shortest}
 use Rattle.records.proofs.Records.{row-asked, no_row, shortest-room, labels-room}
-use borrow.Author.Rules.{rules}
-use Rattle.records.proofs.lookup.Lts as lts
 use Rattle.records.proofs.lookup.Goals as goal
 
 pub find-k-requires : goal.find-k-requires

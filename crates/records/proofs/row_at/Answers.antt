@@ -1,6 +1,5 @@
 use Rattle.records.proofs.Records.{row_of}
 use borrow.Author.Rules.{rules}
-use Rattle.records.proofs.row_at.Lts as lts
 use Rattle.records.proofs.row_at.Goals as goal
 
 pub returns : goal.returns
