@@ -1,7 +1,7 @@
 #![tactic(auto)]
 
-// The boundary: what `sumqadil_c` exports, for C and Rust programs to link. Answers are plain numbers. A function gives back 0 for a result, else the number of the refusal;
-// numbers that are lent hold the rest, and 0 where there is nothing to hold. No function asks anything of its caller.
+// The boundary: what `sumqadil_c` exports, for C and Rust programs to link. Answers are plain numbers. A function gives back 0 for a result, else the
+// number of the refusal; numbers that are lent hold the rest, and 0 where there is nothing to hold. No function asks anything of its caller.
 ghost use Rattle.std.specs.Prelude.{◌≡◌};
 ghost use Rattle.format.specs.Message.{measure as length_of};
 ghost use Rattle.measure.specs.Entries.{answer_of, rows_needed};
