@@ -9,7 +9,7 @@ fn main() {
     println!("cargo:rerun-if-env-changed=SUMQADIL_LIB");
     println!("cargo:rerun-if-changed={}", library.display());
     if !library.exists() {
-        panic!("{} is not there: run `rt staticlib sumqadil`, or name its folder in SUMQADIL_LIB", library.display());
+        panic!("{} is not there: build it as README.md says, or name its folder in SUMQADIL_LIB", library.display());
     }
     println!("cargo:rustc-link-search=native={}", folder.display());
     println!("cargo:rustc-link-lib=static=sumqadil");

@@ -1,10 +1,13 @@
 #![tactic(auto)]
 
 // Answers cases, a line each, from standard input to standard output.
-ghost use Rattle.std.specs.Prelude.{◌≡◌, ◌*◌, ◌^◌, ◌≤◌, ◌<◌, length};
+ghost use Rattle.std.specs.Prelude.{◌≡◌, ◌*◌, ◌^◌, ◌≤◌, ◌<◌, length, IfOk};
 ghost use Rattle.columns.specs.Columns.{columns};
 ghost use Rattle.answers.specs.Replies.{Lent};
 ghost use Rattle.cases.specs.Turns.{Going};
+
+use std::io;
+use std::io::{Read, Write};
 
 // At most either, and some where both are.
 fn least(a: usize, b: usize) -> usize
@@ -17,19 +20,20 @@ fn least(a: usize, b: usize) -> usize
 }
 
 // Writes out what stands at the front where it is much, and gives how much stands there then.
-fn flush(out: &[u8], n: usize) -> usize
+fn flush<W: Write>(output: &mut W, out: &[u8], n: usize) -> io::Result<usize>
     requires { n ≤ length out.now }
-    ensures { result ≤ 32768 }
+    ensures { IfOk result (λ k. k ≤ 32768) }
 {
     if n <= 32768 {
-        return n;
+        return Ok(n);
     }
-    io::write_all(libc::STDOUT_FILENO, &out[..n]);
-    0
+    output.write_all(&out[..n])?;
+    Ok(0)
 }
 
 // Answers a case: what the answer begins with, its rows, at most 256 at a time, and a line feed.
-fn answer_case(
+fn answer_case<W: Write>(
+    output: &mut W,
     line: &[u8],
     work: &mut [u8],
     ty: &mut [i32],
@@ -43,7 +47,7 @@ fn answer_case(
     start: &mut [u32],
     end: &mut [u32],
     out: &mut [u8],
-)
+) -> io::Result<()>
     requires { (length line.now ≤ 2 * length work.old) × Lent (columns ty.old own.old label.old number.old first.old second.old place.old below.old start.old end.old) × (65536 ≤ length out.old) }
 {
     let begun = answers::begin_line(
@@ -57,15 +61,16 @@ fn answer_case(
         next = answers::put_rows(
             ty, own, label, number, first, second, place, below, start, end, k, m, out, next,
         );
-        next = flush(out, next);
+        next = flush(output, out, next)?;
         k += m;
     }
     out[next] = b'\n';
-    io::write_all(libc::STDOUT_FILENO, &out[..next + 1]);
+    output.write_all(&out[..next + 1])
 }
 
 // Answers the whole lines among the octets, and gives how many octets those lines are.
-fn answer_all(
+fn answer_all<W: Write>(
+    output: &mut W,
     src: &[u8],
     work: &mut [u8],
     ty: &mut [i32],
@@ -79,15 +84,16 @@ fn answer_all(
     start: &mut [u32],
     end: &mut [u32],
     out: &mut [u8],
-) -> usize
+) -> io::Result<usize>
     requires { (length src.now ≤ 2 * length work.old) × Lent (columns ty.old own.old label.old number.old first.old second.old place.old below.old start.old end.old) × (65536 ≤ length out.old) × (length src.now < 2 ^ 32) }
-    ensures { result ≤ length src.now }
+    ensures { IfOk result (λ n. n ≤ length src.now) }
 {
     let n = src.len();
     let mut used = 0;
     let mut feed = octets::find(src, 0, n, b'\n');
     while feed < n {
         answer_case(
+            output,
             &src[used..feed],
             work,
             ty,
@@ -101,11 +107,11 @@ fn answer_all(
             start,
             end,
             out,
-        );
+        )?;
         used = feed + 1;
         feed = octets::find(src, used, n, b'\n');
     }
-    used
+    Ok(used)
 }
 
 // What a turn brings: so many octets at the front; or the last of them, where the input has ended.
@@ -116,23 +122,25 @@ enum Turn {
 }
 
 // Reads once, after what is held. A last line may lack its line feed.
-fn take_turn(src: &mut [u8], held: usize) -> Turn
+fn take_turn<R: Read>(input: &mut R, src: &mut [u8], held: usize) -> io::Result<Turn>
     requires { held < length src.old }
-    ensures { Going (length src.old) result }
+    ensures { IfOk result (Going (length src.old)) }
 {
-    let came = input::read_more(src, held);
+    let came = input::read_more(input, src, held)?;
     if 0 < came {
-        return Turn::More(held + came);
+        return Ok(Turn::More(held + came));
     }
     if held == 0 {
-        return Turn::Last(0);
+        return Ok(Turn::Last(0));
     }
     src[held] = b'\n';
-    Turn::Last(held + 1)
+    Ok(Turn::Last(held + 1))
 }
 
 // A proved loop has to end, and nothing says that the input does: it counts its turns down, from a number that no run uses up.
-fn answer_input(
+fn answer_input<R: Read, W: Write>(
+    input: &mut R,
+    output: &mut W,
     src: &mut [u8],
     work: &mut [u8],
     ty: &mut [i32],
@@ -146,15 +154,16 @@ fn answer_input(
     start: &mut [u32],
     end: &mut [u32],
     out: &mut [u8],
-)
+) -> io::Result<()>
     requires { (2 ≤ length src.old) × (length src.old ≤ 2 * length work.old) × Lent (columns ty.old own.old label.old number.old first.old second.old place.old below.old start.old end.old) × (65536 ≤ length out.old) × (length src.old < 2 ^ 32) }
 {
     let mut held = 0;
     let mut turns = u64::MAX;
     while turns > 0 {
-        match take_turn(src, held) {
+        match take_turn(input, src, held)? {
             Turn::Last(n) => {
                 answer_all(
+                    output,
                     &src[..n],
                     work,
                     ty,
@@ -168,11 +177,12 @@ fn answer_input(
                     start,
                     end,
                     out,
-                );
-                return;
+                )?;
+                return Ok(());
             }
             Turn::More(n) => {
                 let used = answer_all(
+                    output,
                     &src[..n],
                     work,
                     ty,
@@ -186,13 +196,14 @@ fn answer_input(
                     start,
                     end,
                     out,
-                );
+                )?;
                 let rest = input::keep(src, used, n);
                 held = input::shorten(src, rest);
             }
         }
         turns -= 1;
     }
+    Ok(())
 }
 
 // A line of 1 MiB, its line feed, and one octet more.
@@ -233,7 +244,9 @@ fn column_i64() -> [i64; 98304]
     [0; 98304]
 }
 
-fn main() {
+fn main(rt: HostRuntime) -> io::Result<()> {
+    let mut input = rt.stdin();
+    let mut output = rt.stdout();
     let mut src = line_room();
     let mut work = octets_room();
     let mut ty = column_i32();
@@ -246,8 +259,10 @@ fn main() {
     let mut below = column_u32();
     let mut start = column_u32();
     let mut end = column_u32();
-    let mut out = io::large_buffer();
+    let mut out = [0; 65536];
     answer_input(
+        &mut input,
+        &mut output,
         &mut src,
         &mut work,
         &mut ty,
@@ -261,5 +276,5 @@ fn main() {
         &mut start,
         &mut end,
         &mut out,
-    );
+    )
 }

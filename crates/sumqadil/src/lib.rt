@@ -1,7 +1,7 @@
 #![tactic(auto)]
 
-// The boundary: what C and Rust programs link. Answers are plain numbers. A function gives back 0 for a result, else the number of the refusal;
-// numbers that are lent hold the rest, and 0 where there is nothing to hold. No function asks anything of its caller.
+// The boundary: what `sumqadil_c` exports, for C and Rust programs to link. Answers are plain numbers. A function gives back 0 for a result, else the
+// number of the refusal; numbers that are lent hold the rest, and 0 where there is nothing to hold. No function asks anything of its caller.
 ghost use Rattle.std.specs.Prelude.{◌≡◌};
 ghost use Rattle.format.specs.Message.{measure as length_of};
 ghost use Rattle.measure.specs.Entries.{answer_of, rows_needed};
@@ -36,24 +36,21 @@ fn tell_count(m: Measured, count: &mut usize, place: &mut usize) -> u8
 }
 
 // Measuring: the length of the first value of `src`.
-#[unsafe(no_mangle)]
-pub extern "C" fn sumqadil_measure(src: &[u8], length: &mut usize, place: &mut usize) -> u8
+pub fn sumqadil_measure(src: &[u8], length: &mut usize, place: &mut usize) -> u8
     ensures { Counted (length_of src.now) result length.new place.new }
 {
     tell_count(measure::measure(src), length, place)
 }
 
 // The rows that a message needs.
-#[unsafe(no_mangle)]
-pub extern "C" fn sumqadil_count_rows(src: &[u8], rows: &mut usize, place: &mut usize) -> u8
+pub fn sumqadil_count_rows(src: &[u8], rows: &mut usize, place: &mut usize) -> u8
     ensures { Counted (rows_needed src.now) result rows.new place.new }
 {
     tell_count(measure::count_rows(src), rows, place)
 }
 
 // Reading a message into ten lent columns: the count of its rows, which stand first in each column.
-#[unsafe(no_mangle)]
-pub extern "C" fn sumqadil_read_message(
+pub fn sumqadil_read_message(
     src: &[u8],
     ty: &mut [i32],
     own: &mut [u8],
@@ -106,8 +103,7 @@ fn tell_frame(
 }
 
 // Checking a frame: the rows that its message needs, its conversation number and the place of its message.
-#[unsafe(no_mangle)]
-pub extern "C" fn sumqadil_check_frame(
+pub fn sumqadil_check_frame(
     src: &[u8],
     rows: &mut usize,
     conversation: &mut i32,
@@ -120,8 +116,7 @@ pub extern "C" fn sumqadil_check_frame(
 }
 
 // Reading a frame into ten lent columns. The rows' places are message places.
-#[unsafe(no_mangle)]
-pub extern "C" fn sumqadil_read_frame(
+pub fn sumqadil_read_frame(
     src: &[u8],
     ty: &mut [i32],
     own: &mut [u8],
@@ -182,8 +177,7 @@ fn ask_by(row: Row, what: u8) -> Asked
 }
 
 // The value of a row with this type and number, as the type asked for. No other number of the row is looked at.
-#[unsafe(no_mangle)]
-pub extern "C" fn sumqadil_ask(ty: i32, number: i64, what: u8, value: &mut i64) -> u8
+pub fn sumqadil_ask(ty: i32, number: i64, what: u8, value: &mut i64) -> u8
     ensures { AskedBy what ty number result value.new }
 {
     let row = Row {
