@@ -1,7 +1,7 @@
 #![tactic(auto)]
 
 // Answers cases, a line each, from standard input to standard output.
-ghost use Rattle.std.specs.Prelude.{◌≡◌, ◌*◌, ◌^◌, ◌≤◌, ◌<◌, length, IfOk};
+ghost use Rattle.std.specs.Prelude.{◌≡◌, ◌*◌, ◌^◌, ◌≤◌, ◌<◌, length, take, IfOk, OnErr};
 ghost use Rattle.columns.specs.Columns.{columns};
 ghost use Rattle.answers.specs.Replies.{Lent};
 ghost use Rattle.cases.specs.Turns.{Going};
@@ -49,6 +49,7 @@ fn answer_case<W: Write>(
     out: &mut [u8],
 ) -> io::Result<()>
     requires { (length line.now ≤ 2 * length work.old) × Lent (columns ty.old own.old label.old number.old first.old second.old place.old below.old start.old end.old) × (65536 ≤ length out.old) }
+    ensures { OnErr result (Lent (columns ty.new own.new label.new number.new first.new second.new place.new below.new start.new end.new) × (length out.new ≡ length out.old)) }
 {
     let begun = answers::begin_line(
         line, work, ty, own, label, number, first, second, place, below, start, end, out, 0,
@@ -86,7 +87,8 @@ fn answer_all<W: Write>(
     out: &mut [u8],
 ) -> io::Result<usize>
     requires { (length src.now ≤ 2 * length work.old) × Lent (columns ty.old own.old label.old number.old first.old second.old place.old below.old start.old end.old) × (65536 ≤ length out.old) × (length src.now < 2 ^ 32) }
-    ensures { IfOk result (λ n. n ≤ length src.now) }
+    ensures ok { IfOk result (λ n. n ≤ length src.now) }
+    ensures err { OnErr result (Lent (columns ty.new own.new label.new number.new first.new second.new place.new below.new start.new end.new) × (length out.new ≡ length out.old)) }
 {
     let n = src.len();
     let mut used = 0;
@@ -121,10 +123,11 @@ enum Turn {
     Last(usize),
 }
 
-// Reads once, after what is held. A last line may lack its line feed.
+// Reads once, after what is held. A last line may lack its line feed. An error leaves what is held.
 fn take_turn<R: Read>(input: &mut R, src: &mut [u8], held: usize) -> io::Result<Turn>
     requires { held < length src.old }
-    ensures { IfOk result (Going (length src.old)) }
+    ensures ok { IfOk result (Going (length src.old)) }
+    ensures err { OnErr result (take held src.new ≡ take held src.old) }
 {
     let came = input::read_more(input, src, held)?;
     if 0 < came {
@@ -156,6 +159,7 @@ fn answer_input<R: Read, W: Write>(
     out: &mut [u8],
 ) -> io::Result<()>
     requires { (2 ≤ length src.old) × (length src.old ≤ 2 * length work.old) × Lent (columns ty.old own.old label.old number.old first.old second.old place.old below.old start.old end.old) × (65536 ≤ length out.old) × (length src.old < 2 ^ 32) }
+    ensures { OnErr result (Lent (columns ty.new own.new label.new number.new first.new second.new place.new below.new start.new end.new) × (length out.new ≡ length out.old)) }
 {
     let mut held = 0;
     let mut turns = u64::MAX;

@@ -1,7 +1,7 @@
 #![tactic(auto)]
 
 // The desk: lists the frames of lines, from standard input to standard output.
-ghost use Rattle.std.specs.Prelude.{◌≤◌, ◌<◌, length, IfOk};
+ghost use Rattle.std.specs.Prelude.{◌≡◌, ◌≤◌, ◌<◌, length, take, IfOk, OnErr};
 ghost use Rattle.desk.specs.Turns.{Within, Going};
 
 use reading::Refusal;
@@ -10,7 +10,8 @@ use std::io::{Read, Write};
 
 // Lists the whole lines among the octets, a run of them at a time, and gives how many octets are listed.
 fn list_all<W: Write>(output: &mut W, src: &[u8], out: &mut [u8]) -> io::Result<usize>
-    ensures { Within (length src.now) result }
+    ensures ok { Within (length src.now) result }
+    ensures err { OnErr result (length out.new ≡ length out.old) }
 {
     let mut at = 0;
     while at < src.len() {
@@ -29,6 +30,7 @@ fn list_all<W: Write>(output: &mut W, src: &[u8], out: &mut [u8]) -> io::Result<
 // A last line without a line feed is 17.
 fn refuse_last<W: Write>(output: &mut W, out: &mut [u8]) -> io::Result<()>
     requires { 32768 ≤ length out.old }
+    ensures { OnErr result (length out.new ≡ length out.old) }
 {
     let written = text::put_refused(
         out,
@@ -48,7 +50,7 @@ enum Turn {
     Ended,
 }
 
-// Reads once, and lists the whole lines that are there.
+// Reads once, and lists the whole lines that are there. An error leaves what is held.
 fn take_turn<R: Read, W: Write>(
     input: &mut R,
     output: &mut W,
@@ -57,7 +59,8 @@ fn take_turn<R: Read, W: Write>(
     held: usize,
 ) -> io::Result<Turn>
     requires { (held < length src.old) × (2 ≤ length src.old) × (32768 ≤ length out.old) }
-    ensures { IfOk result (Going (length src.old)) }
+    ensures ok { IfOk result (Going (length src.old)) }
+    ensures err { OnErr result (take held src.new ≡ take held src.old) }
 {
     let came = input::read_more(input, src, held)?;
     if came == 0 {
