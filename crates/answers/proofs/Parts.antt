@@ -7,7 +7,7 @@ use Rattle.format.specs.declared.Row.{Row}
 use Rattle.format.specs.Writing.{Table, row_at, tabled}
 use Rattle.integer.specs.Writes.{Room, Wrote}
 use Rattle.text.proofs.Writes.{wrote-append, wrote_kept}
-use Rattle.records.specs.Records.{RowOf}
+use Rattle.columns.specs.Columns.{RowOf}
 use Rattle.records.proofs.Records.{last-text}
 use Rattle.replies.specs.Cases.{row_part, row_parts}
 use Rattle.replies.proofs.Texts.{part_length}

@@ -1,4 +1,5 @@
 -- What is read into the columns, and the answer that begins with it.
+use Rattle.std.specs.Prelude.{Result, Ok, Err}
 use mathlib.Core.Path.{◌≡◌, refl, sym, ap, subst, ◌∙◌}
 use mathlib.Core.List.{List, [], ◌∷◌, ◌++◌}
 use Prim.Native.Nat.{ℕ}
@@ -12,14 +13,12 @@ use Rattle.format.specs.Desk.{feed}
 use Rattle.format.specs.Message.{Answer, ok, refused, then, read_message, read_frame}
 use Rattle.format.specs.Writing.{Table, tabled}
 use Rattle.columns.specs.Columns.{Roomy, Filled}
-use Rattle.measure.specs.declared.Measured.{Measured}
-use Rattle.measure.specs.declared.Measured.TheVariants.{Amount, Refused}
 use Rattle.measure.specs.Entries.{answer_of}
-use Rattle.message.specs.Messages.{shortest, Holds, counted, MessageRead}
+use Rattle.columns.specs.Columns.{shortest}
+use Rattle.message.specs.Messages.{Holds, counted, MessageRead}
 use Rattle.message.proofs.Messages.{same-refused, same_ok}
 use Rattle.frame.specs.declared.FramePlace.{FramePlace}
-use Rattle.frame.specs.declared.Framed.{Framed}
-use Rattle.frame.specs.declared.Framed.TheVariants as framed
+use Rattle.frame.specs.declared.Frame.{Frame}
 use Rattle.frame.specs.Frames.{FrameRead}
 use Rattle.records.proofs.Records.{filled-rows, filled-room}
 use Rattle.listing.specs.Listing.{Listed}
@@ -43,18 +42,18 @@ begins-alone t w = record {
 
 -- ---- a message
 
-module _ (o : List ℕ) {t t' : Table} {x : Measured} (h : MessageRead o t x t') (s : Lent t) where
+module _ (o : List ℕ) {t t' : Table} {x : Result ℕ Refusal} (h : MessageRead o t x t') (s : Lent t) where
   by-limit : answer_of x ≡ then (read_message lent o) counted
   by-limit = subst (λ (k : ℕ). answer_of x ≡ then (read_message k o) counted) (shortest-lent s) h.told
 
-  message-refused : {q : Refusal} → x ≡ Refused q → read_message lent o ≡ refused q
+  message-refused : {q : Refusal} → x ≡ Err q → read_message lent o ≡ refused q
   message-refused {q} e = by (read_message lent o) (ap answer_of (sym e) ∙ by-limit)
     where
       by : (y : Answer (List Row)) → refused q ≡ then y counted → y ≡ refused q
       by (ok a) k = let z : ◌≡◌ {A = ℕ} 0 1 = cc in absurd (omega arith)
       by (refused p) k = ap refused (sym (same-refused k))
 
-  message-given : {n : ℕ} → x ≡ Amount n → (rs : List Row) × (read_message lent o ≡ ok rs) × (n ≡ length rs)
+  message-given : {n : ℕ} → x ≡ Ok n → (rs : List Row) × (read_message lent o ≡ ok rs) × (n ≡ length rs)
   message-given {n} e = by (read_message lent o) refl (ap answer_of (sym e) ∙ by-limit)
     where
       by : (y : Answer (List Row)) → read_message lent o ≡ y → ok n ≡ then y counted → (rs : List Row) × (read_message lent o ≡ ok rs) × (n ≡ length rs)
@@ -62,10 +61,10 @@ module _ (o : List ℕ) {t t' : Table} {x : Measured} (h : MessageRead o t x t')
       by (refused p) k h = let z : ◌≡◌ {A = ℕ} 0 1 = cc in absurd (omega arith)
 
   module _ {at e : ℕ} {l out : List ℕ} where
-    pub message-no : {q : Refusal} → x ≡ Refused q → Listed (refused_by q) at l e out → Begins (reply message_rows (read_message lent o)) at l (record { end = e; rows = 0 }) out t'
+    pub message-no : {q : Refusal} → x ≡ Err q → Listed (refused_by q) at l e out → Begins (reply message_rows (read_message lent o)) at l (record { end = e; rows = 0 }) out t'
     message-no q w = subst (λ (y : Answer (List Row)). Begins (reply message_rows y) at l (record { end = e; rows = 0 }) out t') (sym (message-refused q)) (begins-alone t' w)
 
-    pub message-rows : {n : ℕ} → x ≡ Amount n → Listed (accepted (pos n ∷ [])) at l e out → Begins (reply message_rows (read_message lent o)) at l (record { end = e; rows = n }) out t'
+    pub message-rows : {n : ℕ} → x ≡ Ok n → Listed (accepted (pos n ∷ [])) at l e out → Begins (reply message_rows (read_message lent o)) at l (record { end = e; rows = n }) out t'
     message-rows {n} q w =
         let g = message-given q in
         let f : Filled 0 g.0 t t' = subst (λ (y : Answer (List Row)). Holds y t t') (ap (λ (k : ℕ). read_message k o) (shortest-lent s) ∙ g.1) h.holds in
@@ -77,11 +76,11 @@ module _ (o : List ℕ) {t t' : Table} {x : Measured} (h : MessageRead o t x t')
 
 -- ---- a frame
 
-module _ (o : List ℕ) {t t' : Table} {x : Framed} (h : FrameRead o t x t') (s : Lent t) {at e : ℕ} {l out : List ℕ} where
-  pub frame-no : {q : Refusal} → x ≡ framed.Refused q → Listed (refused_by q) at l e out → Begins (reply frame_rows (read_frame lent o)) at l (record { end = e; rows = 0 }) out t'
+module _ (o : List ℕ) {t t' : Table} {x : Result Frame Refusal} (h : FrameRead o t x t') (s : Lent t) {at e : ℕ} {l out : List ℕ} where
+  pub frame-no : {q : Refusal} → x ≡ Err q → Listed (refused_by q) at l e out → Begins (reply frame_rows (read_frame lent o)) at l (record { end = e; rows = 0 }) out t'
   frame-no q w = subst (λ (y : Answer (ℤ × ℕ × List Row)). Begins (reply frame_rows y) at l (record { end = e; rows = 0 }) out t') (sym (frame_refused o h (shortest-lent s) q)) (begins-alone t' w)
 
-  pub frame-begins : {from : FramePlace} {n : ℕ} {c z : ℤ} → x ≡ framed.Rows from n c → z ≡ c → Listed (accepted (z ∷ pos n ∷ [])) at l e out → Begins (reply frame_rows (read_frame lent o)) at l (record { end = e; rows = n }) out t'
+  pub frame-begins : {from : FramePlace} {n : ℕ} {c z : ℤ} → x ≡ Ok (record { message = from; rows = n; conversation = c }) → z ≡ c → Listed (accepted (z ∷ pos n ∷ [])) at l e out → Begins (reply frame_rows (read_frame lent o)) at l (record { end = e; rows = n }) out t'
   frame-begins {n = n} {c} {z} q j w =
       let g = frame-given o h (shortest-lent s) q in
       subst (λ (y : Answer (ℤ × ℕ × List Row)). Begins (reply frame_rows y) at l (record { end = e; rows = n }) out t') (sym g.1) (record {

@@ -1,13 +1,13 @@
--- A row's sort, as the code finds it from the type and the number, and what a row of a sort answers.
-use Rattle.std.specs.Prelude.{cond, ℕ, zero, suc, ◌-◌, ◌^◌, ltb, eqb, ℤ, pos, negsuc}
-use Rattle.format.specs.declared.As.{As}
+-- A row's sort, as the code finds it from the type and the number.
+use Rattle.std.specs.Prelude.{cond, ℕ, zero, suc, ◌-◌, ◌^◌, ltb, ℤ, pos, negsuc, Option, Some, None}
 use Rattle.format.specs.Types as types
-use Rattle.format.specs.Types.{Datum, packed, fixed, code, amount, implied, Kind}
-use Rattle.format.specs.Data.{within}
+use Rattle.format.specs.Types.{Datum, packed, fixed, code, amount, implied}
+use Rattle.format.specs.declared.As.{As}
 use Rattle.format.specs.Message.{Answer}
-use Rattle.format.specs.Asking.{possible, cannot, sort_as}
-use Rattle.ask.specs.declared.Sort.{Sort}
-use Rattle.ask.specs.declared.Sort.TheVariants.{Impossible, Integer, Octet, Char, Boolean, Null, Other}
+use Rattle.format.specs.Asking.{possible, integer_as, cannot}
+use Rattle.ask.specs.declared.tables.Sort.{Sort}
+use Rattle.ask.specs.declared.tables.Sort.TheVariants.{Integer, Octet, Char, Boolean, Null, Other}
+use Rattle.ask.specs.declared.tables.Kind.{Kind}
 
 abbrev pub sorted : types.Sort → Sort
 sorted types.integral = Integer
@@ -16,19 +16,6 @@ sorted types.char = Char
 sorted types.boolean = Boolean
 sorted types.null = Null
 sorted types.other = Other
-
--- the sort with a number, in the order of `Sort`
-abbrev pub coded : ℕ → Sort
-coded n =
-    cond (eqb n 0) Impossible (cond (eqb n 1) Integer (cond (eqb n 2) Octet (cond (eqb n 3) Char (cond (eqb n 4) Boolean (cond (eqb n 5) Null Other)))))
-
--- the sort of a row of a type whose numbers go from one number to another
-abbrev pub bounded : Sort → ℤ → ℤ → ℤ → Sort
-bounded s least most z = cond (within least most z) s Impossible
-
--- the sort of a type's rows
-abbrev pub sort_in : Kind → Sort
-sort_in k = cond k.carried (sorted k.sort) Impossible
 
 -- the range of the numbers that a datum can say (none where an integer's bound is 0)
 abbrev pub lowest_below : ℕ → ℤ
@@ -53,16 +40,19 @@ highest code = pos (2 ^ 16 - 1)
 highest amount = pos (2 ^ 31 - 1)
 highest (implied y) = y
 
--- the sort of a row with number z
-abbrev pub judged : Kind → ℤ → Sort
-judged k z = cond k.carried (cond (possible k.datum z) (sorted k.sort) Impossible) Impossible
+-- the rows of a type, where it is carried
+abbrev pub numbers_of : types.Kind → Option Kind
+numbers_of k = cond k.carried (Some (record { 0 = sorted k.sort; 1 = lowest k.datum; 2 = highest k.datum })) None
 
--- what a row of a sort answers (an impossible one is not asked)
-abbrev pub sort_answer : Sort → As → ℤ → Answer ℤ
-sort_answer Impossible a z = cannot
-sort_answer Integer a z = sort_as types.integral a z
-sort_answer Octet a z = sort_as types.octet a z
-sort_answer Char a z = sort_as types.char a z
-sort_answer Boolean a z = sort_as types.boolean a z
-sort_answer Null a z = sort_as types.null a z
-sort_answer Other a z = sort_as types.other a z
+-- the sort of a row with number z, where its type is carried and the number is possible
+abbrev pub judged : types.Kind → ℤ → Option Sort
+judged k z = cond k.carried (cond (possible k.datum z) (Some (sorted k.sort)) None) None
+
+-- what an integer answers as a type, and a row of another sort, which says none
+abbrev pub narrowed_as : Sort → As → ℤ → Answer ℤ
+narrowed_as Integer a z = integer_as a z
+narrowed_as Octet a z = cannot
+narrowed_as Char a z = cannot
+narrowed_as Boolean a z = cannot
+narrowed_as Null a z = cannot
+narrowed_as Other a z = cannot

@@ -1,10 +1,21 @@
 -- Ten lent columns, and rows stored in them.
-use Rattle.std.specs.Prelude.{◌≡◌, cond, List, [], ◌∷◌, ◌++◌, map, ℕ, ◌+◌, ◌≤◌, ◌<◌, length, set, take, drop, replicate, ltb, ℤ, pos}
+use Rattle.std.specs.Prelude.{◌≡◌, cond, List, [], ◌∷◌, ◌++◌, map, ℕ, ◌+◌, ◌≤◌, ◌<◌, min, length, set, take, drop, replicate, ltb, ℤ, pos}
 use Rattle.format.specs.declared.Row.{Row}
-use Rattle.format.specs.Writing.{Table}
+use Rattle.format.specs.Rows.{Sized}
+use Rattle.format.specs.Writing.{Table, row_at}
 
 abbrev pub columns : List ℤ → List ℕ → List ℕ → List ℤ → List ℤ → List ℤ → List ℕ → List ℕ → List ℕ → List ℕ → Table
 columns x0 x1 x2 x3 x4 x5 x6 x7 x8 x9 = record { ty = x0; own = x1; label = x2; number = x3; first = x4; second = x5; place = x6; below = x7; start = x8; end = x9 }
+
+-- 01: "a reading may use as many rows as the shortest column has"
+unfoldable pub shortest : Table → ℕ
+shortest t =
+    min (min (min (min (min (min (min (min (min (length t.ty) (length t.own)) (length t.label)) (length t.number)) (length t.first)) (length t.second)) (length t.place)) (length t.below)) (length t.start)) (length t.end)
+
+-- the row at k, whose numbers are of the columns' types
+pub record RowOf (t : Table) (k : ℕ) (r : Row) : Type 0 where
+  pub same : r ≡ row_at t k
+  pub held : Sized r
 
 -- every column has room for lim rows
 pub record Roomy (lim : ℕ) (t : Table) : Type 0 where
@@ -48,9 +59,6 @@ cleared n z l = replicate n z ++ drop n l
 
 -- ---- seven columns: in the other three, element types and rows below, only values that hold others have a number other than 0
 
-abbrev pub seven : List ℤ → List ℕ → List ℕ → List ℤ → List ℕ → List ℕ → List ℕ → Table
-seven x0 x1 x2 x3 x6 x8 x9 = columns x0 x1 x2 x3 [] [] x6 [] x8 x9
-
 -- each of the seven has a row k
 pub record LeafRoom (k : ℕ) (t : Table) : Type 0 where
   pub ty_room : k < length t.ty
@@ -70,6 +78,9 @@ pub record LeafStored (k : ℕ) (r : Row) (t t' : Table) : Type 0 where
   pub place_stored : t'.place ≡ set t.place k r.place
   pub start_stored : t'.start ≡ set t.start k r.start
   pub end_stored : t'.end ≡ set t.end k r.end
+  pub first_same : t'.first ≡ t.first
+  pub second_same : t'.second ≡ t.second
+  pub below_same : t'.below ≡ t.below
 
 -- a row without element types and rows below
 abbrev pub Single : Row → Type 0

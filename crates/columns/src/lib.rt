@@ -1,87 +1,160 @@
 #![tactic(auto)]
 
-// Ten lent columns: cleared, and rows stored in them.
-ghost use Rattle.std.specs.Prelude.{◌≡◌, ◌≤◌, length, pos};
-ghost use Rattle.columns.specs.Columns.{columns, Roomy, Stored, cleared, seven, LeafRoom, LeafStored};
+// Ten lent columns: cleared, rows stored in them, and read.
+ghost use Rattle.std.specs.Prelude.{◌≡◌, ◌≤◌, ◌<◌, ◌+◌, length};
+ghost use Rattle.columns.specs.Columns.{Roomy, Stored, LeafRoom, LeafStored, cleared, shortest, RowOf};
+ghost use Rattle.columns.specs.Lent.{table, table_of, SameLoans, Cleared};
 
 use format::Row;
 
-// 0 in the first n rows of a column of types.
-pub fn clear_types(col: &mut [i32], n: usize)
-    requires { n ≤ length col.old }
-    ensures { col.new ≡ cleared n (pos 0) col.old }
+// Ten columns, lent for writing. They stay ten: C lends them so, each of its own type.
+#[derive(Drop)]
+pub struct ColumnsMut<'a> {
+    pub ty: &'a mut [i32],
+    pub own: &'a mut [u8],
+    pub label: &'a mut [u32],
+    pub number: &'a mut [i64],
+    pub first: &'a mut [i32],
+    pub second: &'a mut [i32],
+    pub place: &'a mut [u32],
+    pub below: &'a mut [u32],
+    pub start: &'a mut [u32],
+    pub end: &'a mut [u32],
+}
+
+// z in the first n rows of a column.
+fn clear<T: Clone>(col: &mut [T], n: usize, z: T)
+    requires room { n ≤ length col.old }
+    requires copied { T.is_infallible z }
+    requires alike { (y : T) → T.is_clone z y → y ≡ z }
+    ensures { col.new ≡ cleared n z col.old }
 {
-    let mut i: usize = 0;
-    while i < n {
-        col[i] = 0;
-        i += 1;
+    col[..n].fill(z);
+}
+
+impl ColumnsMut<'_> {
+    // The same columns, for reading.
+    pub fn rows(&self) -> Columns<'_>
+        ensures { table_of result ≡ table self.now }
+    {
+        Columns {
+            ty: &*self.ty,
+            own: &*self.own,
+            label: &*self.label,
+            number: &*self.number,
+            first: &*self.first,
+            second: &*self.second,
+            place: &*self.place,
+            below: &*self.below,
+            start: &*self.start,
+            end: &*self.end,
+        }
+    }
+
+    // 0 in the first n rows of the element types and of the rows below.
+    pub fn clear(&mut self, n: usize)
+        requires { Roomy n (table self.old) }
+        ensures lent { SameLoans self.old self.new }
+        ensures cleared { Cleared n (table self.old) (table self.new) }
+    {
+        clear(self.first, n, 0);
+        clear(self.second, n, 0);
+        clear(self.below, n, 0);
+    }
+
+    // Stores a row in seven columns: all but element types and rows below. The row of a value that holds no others has 0 in those three, and 0 stands
+    // there already.
+    pub fn put_leaf(&mut self, k: usize, r: Row)
+        requires { LeafRoom k (table self.old) }
+        ensures lent { SameLoans self.old self.new }
+        ensures stored { LeafStored k r (table self.old) (table self.new) }
+    {
+        self.ty[k] = r.ty;
+        self.own[k] = r.own;
+        self.label[k] = r.label;
+        self.number[k] = r.number;
+        self.place[k] = r.place;
+        self.start[k] = r.start;
+        self.end[k] = r.end;
+    }
+
+    // Stores a row in the columns at k, if that is below the limit.
+    pub fn put_row(&mut self, lim: usize, k: usize, r: Row)
+        requires { Roomy lim (table self.old) }
+        ensures lent { SameLoans self.old self.new }
+        ensures stored { Stored lim k r (table self.old) (table self.new) }
+    {
+        if k < lim {
+            self.put_leaf(k, r);
+            self.first[k] = r.first;
+            self.second[k] = r.second;
+            self.below[k] = r.below;
+        }
     }
 }
 
-// 0 in the first n rows of a column of counts.
-pub fn clear_counts(col: &mut [u32], n: usize)
-    requires { n ≤ length col.old }
-    ensures { col.new ≡ cleared n 0 col.old }
-{
-    let mut i: usize = 0;
-    while i < n {
-        col[i] = 0;
-        i += 1;
+// Ten columns, lent for reading.
+#[derive(Clone, Copy)]
+pub struct Columns<'a> {
+    pub ty: &'a [i32],
+    pub own: &'a [u8],
+    pub label: &'a [u32],
+    pub number: &'a [i64],
+    pub first: &'a [i32],
+    pub second: &'a [i32],
+    pub place: &'a [u32],
+    pub below: &'a [u32],
+    pub start: &'a [u32],
+    pub end: &'a [u32],
+}
+
+impl Columns<'_> {
+    // How many rows there are: as many as the shortest column has.
+    #[tactic(auto, unfolding(crate::specs::Columns::shortest))]
+    pub fn shortest(self) -> usize
+        ensures { result ≡ shortest (table_of self.entry) }
+    {
+        self.ty
+            .len()
+            .min(self.own.len())
+            .min(self.label.len())
+            .min(self.number.len())
+            .min(self.first.len())
+            .min(self.second.len())
+            .min(self.place.len())
+            .min(self.below.len())
+            .min(self.start.len())
+            .min(self.end.len())
     }
-}
 
-// Stores a row in seven columns: all but element types and rows below. The row of a value that holds no others has 0 in those three, and 0 stands
-// there already.
-pub fn put_leaf(
-    ty: &mut [i32],
-    own: &mut [u8],
-    label: &mut [u32],
-    number: &mut [i64],
-    place: &mut [u32],
-    start: &mut [u32],
-    end: &mut [u32],
-    k: usize,
-    r: Row,
-)
-    requires { LeafRoom k (seven ty.old own.old label.old number.old place.old start.old end.old) }
-    ensures { LeafStored k r (seven ty.old own.old label.old number.old place.old start.old end.old) (seven ty.new own.new label.new number.new place.new start.new end.new) }
-{
-    let ty_now = r.ty;
-    ty[k] = ty_now;
-    own[k] = r.own;
-    label[k] = r.label;
-    let number_now = r.number;
-    number[k] = number_now;
-    place[k] = r.place;
-    start[k] = r.start;
-    end[k] = r.end;
-}
-
-// Stores a row in the columns at k, if that is below the limit.
-pub fn put_row(
-    ty: &mut [i32],
-    own: &mut [u8],
-    label: &mut [u32],
-    number: &mut [i64],
-    first: &mut [i32],
-    second: &mut [i32],
-    place: &mut [u32],
-    below: &mut [u32],
-    start: &mut [u32],
-    end: &mut [u32],
-    lim: usize,
-    k: usize,
-    r: Row,
-)
-    requires { Roomy lim (columns ty.old own.old label.old number.old first.old second.old place.old below.old start.old end.old) }
-    ensures { Stored lim k r (columns ty.old own.old label.old number.old first.old second.old place.old below.old start.old end.old) (columns ty.new own.new label.new number.new first.new second.new place.new below.new start.new end.new) }
-{
-    if k < lim {
-        put_leaf(ty, own, label, number, place, start, end, k, r);
-        let first_now = r.first;
-        first[k] = first_now;
-        let second_now = r.second;
-        second[k] = second_now;
-        below[k] = r.below;
+    // The row at k.
+    pub fn row(self, k: usize) -> Row
+        requires { Roomy (k + 1) (table_of self) }
+        ensures { RowOf (table_of self.entry) k result }
+    {
+        let Columns {
+            ty,
+            own,
+            label,
+            number,
+            first,
+            second,
+            place,
+            below,
+            start,
+            end,
+        } = self;
+        Row {
+            ty: ty[k],
+            own: own[k],
+            label: label[k],
+            number: number[k],
+            first: first[k],
+            second: second[k],
+            place: place[k],
+            below: below[k],
+            start: start[k],
+            end: end[k],
+        }
     }
 }

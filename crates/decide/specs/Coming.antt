@@ -1,5 +1,5 @@
 -- The next value of a container.
-use Rattle.std.specs.Prelude.{◌≡◌, Bool, true, false, cond, List, ℕ, suc, ◌<◌, ◌≤◌, length, ltb, leb, ℤ, negsuc}
+use Rattle.std.specs.Prelude.{◌≡◌, Bool, true, false, cond, List, ℕ, suc, ◌<◌, ◌≤◌, length, ltb, leb, ℤ, negsuc, Result, Ok, Err}
 use Rattle.std.specs.Int.Signed.{mag, non_neg}
 use Rattle.reading.specs.declared.Refusal.{Refusal}
 use Rattle.reading.specs.Reading.{Env, State, Out, got, stop, refusal, stand}
@@ -7,7 +7,7 @@ use Rattle.integer.specs.Packed.{wide32, integer}
 use Rattle.format.specs.Data.{eq_z}
 use Rattle.format.specs.Values.{label}
 use Rattle.decide.specs.declared.Next.{Next}
-use Rattle.decide.specs.declared.Next.TheVariants.{Value, End, Halt}
+use Rattle.decide.specs.declared.Next.TheVariants.{Value, End}
 
 -- whether a value follows: a refusal, the end, or a value with its label; and the state there
 pub data Coming : Type 0 where
@@ -33,21 +33,21 @@ next_low x j low = cond x (suc j) (suc low)
 
 -- ---- as the code answers
 
-abbrev pub next_out : List ℕ → Env → Next → Coming
-next_out o e (Value next j k) = go j (stand o next e)
-next_out o e (End next) = ends (stand o next e)
-next_out o e (Halt r) = halt r
+abbrev pub next_out : List ℕ → Env → Result Next Refusal → Coming
+next_out o e (Ok (Value next j k)) = go j (stand o next e)
+next_out o e (Ok (End next)) = ends (stand o next e)
+next_out o e (Err r) = halt r
 
 -- the place lies further on, and `low` rises to k
-abbrev pub PastNext : List ℕ → Bool → ℕ → ℕ → ℕ → Next → Type 0
-PastNext o x count low at (Value next j k) = (at ≤ next) × (next ≤ length o) × (low < k) × (k ≤ count) × (k ≡ next_low x j low)
-PastNext o x count low at (End next) = (at ≤ next) × (next ≤ length o)
-PastNext o x count low at (Halt r) = Unit {0}
+abbrev pub PastNext : List ℕ → Bool → ℕ → ℕ → ℕ → Result Next Refusal → Type 0
+PastNext o x count low at (Ok (Value next j k)) = (at ≤ next) × (next ≤ length o) × (low < k) × (k ≤ count) × (k ≡ next_low x j low)
+PastNext o x count low at (Ok (End next)) = (at ≤ next) × (next ≤ length o)
+PastNext o x count low at (Err r) = Unit {0}
 
-pub record NextAt (o : List ℕ) (x paired : Bool) (count low at : ℕ) (r : Next) : Type 0 where
+pub record NextAt (o : List ℕ) (x paired : Bool) (count low at : ℕ) (r : Result Next Refusal) : Type 0 where
   pub same : (e : Env) → next_out o e r ≡ coming x paired count low (stand o at e)
   pub past : PastNext o x count low at r
 
 -- with indexes, whatever the flag of pairs
-pub record IndexNext (o : List ℕ) (top low at : ℕ) (r : Next) : Type 0 where
+pub record IndexNext (o : List ℕ) (top low at : ℕ) (r : Result Next Refusal) : Type 0 where
   pub next : (paired : Bool) → NextAt o true paired top low at r

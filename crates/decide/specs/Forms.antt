@@ -1,5 +1,6 @@
 -- How values stand, and what a container holds.
-use Rattle.std.specs.Prelude.{◌≡◌, Bool, true, false, cond, List, ℕ, ◌*◌, ◌%◌, ◌^◌, ◌<◌, ◌≤◌, length, eqb, leb, ℤ}
+use Rattle.std.specs.Prelude.{◌≡◌, Bool, true, false, cond, List, ℕ, ◌*◌, ◌%◌, ◌^◌, ◌<◌, ◌≤◌, length, eqb, leb, ℤ, Result, Ok, Err}
+use Rattle.reading.specs.declared.Refusal.{Refusal}
 use Rattle.reading.specs.Reading.{Env, got, stop, stand}
 use Rattle.integer.specs.Packed.{Width, wide32, integer}
 use Rattle.format.specs.Types.{Datum, packed, fixed, code, amount, implied, kind_of}
@@ -11,10 +12,6 @@ use Rattle.decide.specs.declared.Form.{Form}
 use Rattle.decide.specs.declared.Form.TheVariants.{Whole, Named, Bare, Sized, Packed}
 use Rattle.decide.specs.declared.Class.{Class}
 use Rattle.decide.specs.declared.Class.TheVariants.{Int, Fixed}
-use Rattle.decide.specs.declared.Classed.{Classed}
-use Rattle.decide.specs.declared.Classed.TheVariants.{Data, Unclassed}
-use Rattle.decide.specs.declared.Typed.{Typed}
-use Rattle.decide.specs.declared.Typed.TheVariants.{Standing, Untyped}
 use Rattle.decide.specs.declared.Nest.{Nest}
 use Rattle.decide.specs.Classes.{Is, least_of, elementary}
 
@@ -41,27 +38,24 @@ own_of form = own_by (says form)
 -- ---- the type of a value
 
 -- read at a place
-abbrev pub IdentifierIs : List ℕ → ℕ → Typed → Type 0
-IdentifierIs o at (Standing from t) = (at < from) × (from ≤ length o) × ((e : Env) → integer wide32 (stand o at e) ≡ got t (stand o from e))
-IdentifierIs o at (Untyped r) = (e : Env) → integer wide32 (stand o at e) ≡ stop r
-
-pub record IdentifierAt (o : List ℕ) (at : ℕ) (r : Typed) : Type 0 where
-  pub is : IdentifierIs o at r
+abbrev pub IdentifierIs : List ℕ → ℕ → Result (ℕ × ℤ) Refusal → Type 0
+IdentifierIs o at (Ok (from, t)) = (at < from) × (from ≤ length o) × ((e : Env) → integer wide32 (stand o at e) ≡ got t (stand o from e))
+IdentifierIs o at (Err r) = (e : Env) → integer wide32 (stand o at e) ≡ stop r
 
 -- known, where the value is bare
-abbrev pub BareIs : ℤ → ℕ → Typed → Type 0
-BareIs t at (Standing from s) = (from ≡ at) × (s ≡ t)
-BareIs t at (Untyped r) = ⊥
+abbrev pub BareIs : ℤ → ℕ → Result (ℕ × ℤ) Refusal → Type 0
+BareIs t at (Ok (from, s)) = (from ≡ at) × (s ≡ t)
+BareIs t at (Err r) = ⊥
 
-abbrev pub TypedBy : List ℕ → Says → ℕ → Typed → Type 0
+abbrev pub TypedBy : List ℕ → Says → ℕ → Result (ℕ × ℤ) Refusal → Type 0
 TypedBy o unknown at r = IdentifierIs o at r
 TypedBy o (known t) at r = BareIs t at r
 
-abbrev pub PastTyped : List ℕ → ℕ → Typed → Type 0
-PastTyped o at (Standing from t) = (at ≤ from) × (from ≤ length o)
-PastTyped o at (Untyped r) = Unit {0}
+abbrev pub PastTyped : List ℕ → ℕ → Result (ℕ × ℤ) Refusal → Type 0
+PastTyped o at (Ok (from, t)) = (at ≤ from) × (from ≤ length o)
+PastTyped o at (Err r) = Unit {0}
 
-pub record TypedAt (o : List ℕ) (form : Form) (at : ℕ) (r : Typed) : Type 0 where
+pub record TypedAt (o : List ℕ) (form : Form) (at : ℕ) (r : Result (ℕ × ℤ) Refusal) : Type 0 where
   pub is : TypedBy o (says form) at r
   pub past : PastTyped o at r
 
@@ -80,11 +74,11 @@ pub record HasClass (t : ℤ) (c : Class) : Type 0 where
   pub is : Is c t
   pub least : elementary t ≡ true → 0 < least_of c
 
-abbrev pub ClassIs : List ℕ → Form → ℕ → Classed → Type 0
-ClassIs o form at (Data from c) = (t : ℤ) × TypedAt o form at (Standing from t) × (Sound form → HasClass t c)
-ClassIs o form at (Unclassed r) = TypedAt o form at (Untyped r)
+abbrev pub ClassIs : List ℕ → Form → ℕ → Result (ℕ × Class) Refusal → Type 0
+ClassIs o form at (Ok (from, c)) = (t : ℤ) × TypedAt o form at (Ok (from, t)) × (Sound form → HasClass t c)
+ClassIs o form at (Err r) = TypedAt o form at (Err r)
 
-pub record ClassAt (o : List ℕ) (form : Form) (at : ℕ) (r : Classed) : Type 0 where
+pub record ClassAt (o : List ℕ) (form : Form) (at : ℕ) (r : Result (ℕ × Class) Refusal) : Type 0 where
   pub is : ClassIs o form at r
 
 -- a type that a value in a form may have

@@ -5,12 +5,12 @@ ghost use Rattle.reading.specs.Reading.{refusal};
 ghost use Rattle.format.specs.Values.{label};
 ghost use Rattle.decide.specs.Classes.{ClassOf, may_be_element};
 ghost use Rattle.decide.specs.Elements.{AmountAt, ElementAt, TypeAt};
-ghost use Rattle.decide.specs.Forms.{own_of, IdentifierAt, TypedAt, ClassAt, ClassIn, bare_form, form_of, listed_in, alike_nest, nest_in, turn};
+ghost use Rattle.decide.specs.Forms.{own_of, TypedAt, ClassAt, ClassIn, bare_form, form_of, listed_in, alike_nest, nest_in, turn};
 ghost use Rattle.decide.specs.Coming.{IndexNext, NextAt};
 ghost use Rattle.decide.specs.Runs.{integers_of, RunOf, RunIn};
 
-use integer::{Read32, Signed};
-use reading::Refusal;
+use integer::Signed;
+use reading::{Reason, Refusal};
 use scalar::{Bits, Which};
 
 // The values inside a container: as many as its number says; as many pairs of key and value; pairs of index and value; properties.
@@ -30,7 +30,7 @@ pub struct Shape {
     pub inside: Inside,
 }
 
-// How the data of a type goes.
+// How the data of a type goes. A type that is refused is one of the ways: the table of types has no way in which one could be missing.
 #[derive(Clone, Copy)]
 pub enum Class {
     Refused,
@@ -92,25 +92,10 @@ pub fn class_of(t: i32) -> Class
 fn may_be_element(c: Class) -> bool
     ensures { result ≡ may_be_element c }
 {
-    match c {
-        Class::Refused => false,
-        Class::Small => false,
-        Class::Int(_) => true,
-        Class::Fixed(_) => true,
-        Class::Char => true,
-        Class::Parts(_) => true,
-        Class::Text(_) => true,
-        Class::Holder(_) => true,
-        Class::Identity => false,
-        Class::Reference => false,
-    }
-}
-
-// A number of 0 or more and the place past it, or a refusal.
-#[derive(Clone, Copy)]
-pub enum Amount {
-    Number(usize, u32),
-    NoNumber(Refusal),
+    !matches!(
+        c,
+        Class::Refused | Class::Small | Class::Identity | Class::Reference
+    )
 }
 
 // The refusal of a number at a place that is negative, or an index out of its bounds.
@@ -119,55 +104,44 @@ fn out_of_bounds(at: usize) -> Refusal
 {
     Refusal {
         place: at,
-        number: 5,
+        reason: Reason::BadNumber,
     }
 }
 
-// The size, length, version, identity or reference number at a place.
-pub fn amount_at(src: &[u8], at: usize) -> Amount
+// The size, length, version, identity or reference number at a place, and the place past it.
+pub fn amount_at(src: &[u8], at: usize) -> Result<(usize, u32), Refusal>
     ensures { AmountAt src.now at result }
 {
-    match integer::signed_at(src, at) {
-        Signed::Positive(next, n) => Amount::Number(next, n),
-        Signed::Negative(_, _) => Amount::NoNumber(out_of_bounds(at)),
-        Signed::Faulty(r) => Amount::NoNumber(r),
+    let (next, number) = integer::signed_at(src, at)?;
+    match number {
+        Signed::Positive(n) => Ok((next, n)),
+        Signed::Negative(_) => Err(out_of_bounds(at)),
     }
 }
 
-// An element type and the place past it, or a refusal.
-#[derive(Clone, Copy)]
-pub enum Element {
-    Of(usize, i32),
-    NoType(Refusal),
-}
-
-// The element, key or value type at a place.
-pub fn element_at(src: &[u8], at: usize) -> Element
+// The element, key or value type at a place, and the place past it.
+pub fn element_at(src: &[u8], at: usize) -> Result<(usize, i32), Refusal>
     ensures { ElementAt src.now at result }
 {
-    match integer::int32_at(src, at) {
-        Read32::Int32(next, t) => {
-            if may_be_element(class_of(t)) {
-                return Element::Of(next, t);
-            }
-            Element::NoType(Refusal {
-                place: at,
-                number: 4,
-            })
-        }
-        Read32::Refused32(r) => Element::NoType(r),
+    let (next, t) = integer::int_at::<i32>(src, at)?;
+    if may_be_element(class_of(t)) {
+        return Ok((next, t));
     }
+    Err(Refusal {
+        place: at,
+        reason: Reason::BadType,
+    })
 }
 
 // The element type at a place, if one stands there; else the same place and 0.
-pub fn type_at(src: &[u8], on: bool, at: usize) -> Element
+pub fn type_at(src: &[u8], on: bool, at: usize) -> Result<(usize, i32), Refusal>
     requires { at ≤ length src.now }
     ensures { TypeAt src.now on at result }
 {
     if on {
         return element_at(src, at);
     }
-    Element::Of(at, 0)
+    Ok((at, 0))
 }
 
 // ---- How a value stands ----
@@ -188,69 +162,41 @@ pub fn own_of(form: Form) -> u8
     ensures { result ≡ own_of form }
 {
     match form {
-        Form::Whole => 1,
-        Form::Named => 1,
-        Form::Bare(_) => 0,
-        Form::Sized(_, _) => 0,
-        Form::Packed(_, _) => 0,
+        Form::Whole | Form::Named => 1,
+        Form::Bare(_) | Form::Sized(_, _) | Form::Packed(_, _) => 0,
     }
 }
 
-// The place of a value's data, and its type; or a refusal.
-#[derive(Clone, Copy)]
-pub enum Typed {
-    Standing(usize, i32),
-    Untyped(Refusal),
-}
-
-fn identifier_at(src: &[u8], at: usize) -> Typed
-    ensures { IdentifierAt src.now at result }
-{
-    match integer::int32_at(src, at) {
-        Read32::Int32(from, t) => Typed::Standing(from, t),
-        Read32::Refused32(r) => Typed::Untyped(r),
-    }
-}
-
-// The type of the value at a place.
-pub fn typed_at(src: &[u8], form: Form, at: usize) -> Typed
+// The place of the data of the value at a place, and its type.
+pub fn typed_at(src: &[u8], form: Form, at: usize) -> Result<(usize, i32), Refusal>
     requires { at ≤ length src.now }
     ensures { TypedAt src.now form at result }
 {
     match form {
-        Form::Bare(t) => Typed::Standing(at, t),
-        Form::Sized(_, t) => Typed::Standing(at, t),
-        Form::Packed(_, t) => Typed::Standing(at, t),
-        _ => identifier_at(src, at),
+        Form::Bare(t) => Ok((at, t)),
+        Form::Sized(_, t) => Ok((at, t)),
+        Form::Packed(_, t) => Ok((at, t)),
+        _ => integer::int_at::<i32>(src, at),
     }
 }
 
-// The place of a value's data, and its class; or a refusal.
-#[derive(Clone, Copy)]
-pub enum Classed {
-    Data(usize, Class),
-    Unclassed(Refusal),
-}
-
-// The class of the value at a place, by its type.
-fn typed_class(src: &[u8], form: Form, at: usize) -> Classed
+// The place of a value's data, and its class, by its type.
+fn typed_class(src: &[u8], form: Form, at: usize) -> Result<(usize, Class), Refusal>
     requires { at ≤ length src.now }
     ensures { ClassAt src.now form at result }
 {
-    match typed_at(src, form, at) {
-        Typed::Untyped(r) => Classed::Unclassed(r),
-        Typed::Standing(from, t) => Classed::Data(from, class_of(t)),
-    }
+    let (from, t) = typed_at(src, form, at)?;
+    Ok((from, class_of(t)))
 }
 
 // The same, without its type where its form is enough.
-pub fn class_at(src: &[u8], form: Form, at: usize) -> Classed
+pub fn class_at(src: &[u8], form: Form, at: usize) -> Result<(usize, Class), Refusal>
     requires { at ≤ length src.now }
     ensures { ClassAt src.now form at result }
 {
     match form {
-        Form::Sized(n, _) => Classed::Data(at, Class::Fixed(n as usize)),
-        Form::Packed(w, _) => Classed::Data(at, Class::Int(w)),
+        Form::Sized(n, _) => Ok((at, Class::Fixed(n as usize))),
+        Form::Packed(w, _) => Ok((at, Class::Int(w))),
         _ => typed_class(src, form, at),
     }
 }
@@ -269,6 +215,7 @@ pub fn class_in(form: Form, t: i32) -> Class
 
 // The values of a container: how many, or below what their indexes; how many stand by position; how they stand, by turns; whether they have indexes, and
 // whether they are the keys and values of a map.
+// (How `listed` follows from `count` stays a clause of those who need it: the definitions make nests as records, and a ghost field would want a proof in each.)
 #[derive(Clone, Copy)]
 pub struct Nest {
     pub count: usize,
@@ -286,10 +233,7 @@ fn listed_of(indexed: bool, count: usize) -> u32
     if indexed {
         return 0;
     }
-    if 4294967295 < count {
-        return 0;
-    }
-    count as u32
+    u32::try_from(count).unwrap_or(0)
 }
 
 // Values that stand in one form.
@@ -350,34 +294,33 @@ pub fn nest_of(shape: Shape, first: i32, second: i32, n: u32) -> Nest
 
 // ---- The next value of a container ----
 
-// A value at a place, with its label, and the position or least index after it; the end, and the place past it; or a refusal.
+// A value at a place, with its label, and the position or least index after it; or the end, and the place past it.
 #[derive(Clone, Copy)]
 pub enum Next {
     Value(usize, u32, u32),
     End(usize),
-    Halt(Refusal),
 }
 
-fn index_next(src: &[u8], top: usize, low: u32, at: usize) -> Next
+fn index_next(src: &[u8], top: usize, low: u32, at: usize) -> Result<Next, Refusal>
     requires { top < 2 ^ 32 }
     ensures { IndexNext src.now top low at result }
 {
-    match integer::signed_at(src, at) {
-        Signed::Faulty(r) => Next::Halt(r),
-        Signed::Negative(next, n) => {
+    let (next, number) = integer::signed_at(src, at)?;
+    match number {
+        Signed::Negative(n) => {
             if n == 0 {
-                return Next::End(next);
+                return Ok(Next::End(next));
             }
-            Next::Halt(out_of_bounds(at))
+            Err(out_of_bounds(at))
         }
-        Signed::Positive(next, j) => {
+        Signed::Positive(j) => {
             if j < low {
-                return Next::Halt(out_of_bounds(at));
+                return Err(out_of_bounds(at));
             }
             if top <= (j as usize) {
-                return Next::Halt(out_of_bounds(at));
+                return Err(out_of_bounds(at));
             }
-            Next::Value(next, j, j + 1)
+            Ok(Next::Value(next, j, j + 1))
         }
     }
 }
@@ -391,76 +334,61 @@ fn label_of(paired: bool, i: u32) -> u32
     i
 }
 
-// The next value of a container, where `low` is the position of the next one, or with indexes the least index that may come.
-pub fn next_at(
-    src: &[u8],
-    listed: u32,
-    indexed: bool,
-    paired: bool,
-    count: usize,
-    low: u32,
-    at: usize,
-) -> Next
-    requires { (at ≤ length src.now) × (count < 2 ^ 32) × (listed ≡ listed_in indexed count) }
-    ensures { NextAt src.now indexed paired count low at result }
-{
-    if low < listed {
-        return Next::Value(at, label_of(paired, low), low + 1);
+impl Nest {
+    // The next value of a container, where `low` is the position of the next one, or with indexes the least index that may come.
+    pub fn next_at(&self, src: &[u8], low: u32, at: usize) -> Result<Next, Refusal>
+        requires { (at ≤ length src.now) × (self.now.count < 2 ^ 32) × (self.now.listed ≡ listed_in self.now.indexed self.now.count) }
+        ensures { NextAt src.now self.now.indexed self.now.paired self.now.count low at result }
+    {
+        if low < self.listed {
+            return Ok(Next::Value(at, label_of(self.paired, low), low + 1));
+        }
+        if self.indexed {
+            return index_next(src, self.count, low, at);
+        }
+        Ok(Next::End(at))
     }
-    if indexed {
-        return index_next(src, count, low, at);
-    }
-    Next::End(at)
-}
 
-// The form of the value at a position: of a map's keys and values, by turns.
-pub fn turn_of(form: Form, other: Form, i: u32) -> Form
-    ensures { result ≡ turn form other i }
-{
-    if i % 2 == 0 {
-        return form;
+    // The form of the value at a position: of a map's keys and values, by turns.
+    pub fn form_at(&self, i: u32) -> Form
+        ensures { result ≡ turn self.now.form self.now.other i }
+    {
+        if i % 2 == 0 {
+            return self.form;
+        }
+        self.other
     }
-    other
+
+    // What the values of a container are, where all are integers of a width: that width, with the number that tells which fit. Between those with indexes
+    // there are integers, so they make no run.
+    pub fn run(&self) -> Option<(Bits, usize)>
+        ensures { RunIn self.now.indexed self.now.form self.now.other result }
+    {
+        if self.indexed {
+            return None;
+        }
+        run_of(self.form, self.other)
+    }
 }
 
 // ---- Values that are alike ----
 
-// What all values of a container are: integers of a width, with the number that tells which fit; or they are not known to be.
-#[derive(Clone, Copy)]
-pub enum Run {
-    Mixed,
-    Integers(Bits, usize),
-}
-
-fn same_widths(w: Bits, v: Bits) -> Run
+fn same_widths(w: Bits, v: Bits) -> Option<(Bits, usize)>
     ensures { result ≡ integers_of w v }
 {
     let most = scalar::most_of(w);
     if most == scalar::most_of(v) {
-        return Run::Integers(w, most);
+        return Some((w, most));
     }
-    Run::Mixed
+    None
 }
 
 // What values are that stand in two forms by turns.
-fn run_of(form: Form, other: Form) -> Run
+fn run_of(form: Form, other: Form) -> Option<(Bits, usize)>
     ensures { RunOf form other result }
 {
-    match form {
-        Form::Packed(w, _) => match other {
-            Form::Packed(v, _) => same_widths(w, v),
-            _ => Run::Mixed,
-        },
-        _ => Run::Mixed,
+    match (form, other) {
+        (Form::Packed(w, _), Form::Packed(v, _)) => same_widths(w, v),
+        _ => None,
     }
-}
-
-// What the values of a container are. Between those with indexes there are integers, so they make no run.
-pub fn run_in(indexed: bool, form: Form, other: Form) -> Run
-    ensures { RunIn indexed form other result }
-{
-    if indexed {
-        return Run::Mixed;
-    }
-    run_of(form, other)
 }

@@ -15,12 +15,9 @@ use Rattle.text.proofs.Writes.{wrote_kept}
 pub rest-within : (o : List ℕ) (at : ℕ) {used : ℕ} → at ≤ length o → used ≤ length (take (length o - at) (drop at o)) → at + used ≤ length o
 rest-within o at h g = omega (arith, h, g, length-take-le (length o - at) (drop at o) (omega (arith, length-drop at o)))
 
-pub front-within : (o : List ℕ) (n : ℕ) {used : ℕ} → n ≤ length o → used ≤ length (take n o) → used ≤ n
-front-within o n h g = omega (arith, g, length-take-le n o h)
-
 -- the line of refusal 17
 pub room-17 : {l : List ℕ} → 32768 ≤ length l → Room (printed (refused (refusal 17 0))) 0 l
-room-17 h = record { room = omega (arith, refused-length (refusal 17 0) (omega arith) (omega arith), h) }
+room-17 h = record { room = omega (arith, refused-length (refusal 17 0) (omega arith), h) }
 
 pub wrote-17 : {l after : List ℕ} {n : ℕ} → 32768 ≤ length l → Wrote (printed (refused (refusal 17 0))) 0 l n after → n ≤ length after
-wrote-17 h w = omega (arith, w.past, refused-length (refusal 17 0) (omega arith) (omega arith), wrote_kept w, h)
+wrote-17 h w = omega (arith, w.past, refused-length (refusal 17 0) (omega arith), wrote_kept w, h)

@@ -4,7 +4,7 @@
 ghost use Rattle.std.specs.Prelude.{◌≡◌, ◌≤◌, ◌<◌, length, take, IfOk, OnErr};
 ghost use Rattle.desk.specs.Turns.{Within, Going};
 
-use reading::Refusal;
+use reading::{Reason, Refusal};
 use std::io;
 use std::io::{Read, Write};
 
@@ -14,15 +14,14 @@ fn list_all<W: Write>(output: &mut W, src: &[u8], out: &mut [u8]) -> io::Result<
     ensures err { OnErr result (length out.new ≡ length out.old) }
 {
     let mut at = 0;
+    // A step is as many lines as were listed.
     while at < src.len() {
         let p = listing::list_lines(&src[at..], out);
-        let used = p.used;
-        let written = p.written;
-        if used == 0 {
+        if p.used == 0 {
             break;
         }
-        output.write_all(&out[..written])?;
-        at += used;
+        output.write_all(&out[..p.written])?;
+        at += p.used;
     }
     Ok(at)
 }
@@ -37,27 +36,21 @@ fn refuse_last<W: Write>(output: &mut W, out: &mut [u8]) -> io::Result<()>
         0,
         Refusal {
             place: 0,
-            number: 17,
+            reason: Reason::BadLine,
         },
     );
     output.write_all(&out[..written])
 }
 
-// What a turn leaves: a part of a line, of so many octets, at the front; or that all is done.
-#[derive(Clone, Copy)]
-enum Turn {
-    Held(usize),
-    Ended,
-}
-
-// Reads once, and lists the whole lines that are there. An error leaves what is held.
+// Reads once, and lists the whole lines that are there. What is left is a part of a line at the front, of so many octets; None where all is done.
+// An error leaves what is held.
 fn take_turn<R: Read, W: Write>(
     input: &mut R,
     output: &mut W,
     src: &mut [u8],
     out: &mut [u8],
     held: usize,
-) -> io::Result<Turn>
+) -> io::Result<Option<usize>>
     requires { (held < length src.old) × (2 ≤ length src.old) × (32768 ≤ length out.old) }
     ensures ok { IfOk result (Going (length src.old)) }
     ensures err { OnErr result (take held src.new ≡ take held src.old) }
@@ -67,28 +60,26 @@ fn take_turn<R: Read, W: Write>(
         if 0 < held {
             refuse_last(output, out)?;
         }
-        return Ok(Turn::Ended);
+        return Ok(None);
     }
     let end = held + came;
     let used = list_all(output, &src[..end], out)?;
     let rest = input::keep(src, used, end);
-    Ok(Turn::Held(input::shorten(src, rest)))
+    Ok(Some(input::shorten(src, rest)))
 }
 
-// A proved loop has to end, and nothing says that the input does: it counts its turns down, from a number that no run uses up.
+// A proved loop has to end, and nothing says that the input does: it counts its turns, up to a number that no run uses up.
 fn main(rt: HostRuntime) -> io::Result<()> {
     let mut input = rt.stdin();
     let mut output = rt.stdout();
     let mut src = [0; 65536];
     let mut out = [0; 65536];
     let mut held = 0;
-    let mut turns = u64::MAX;
-    while turns > 0 {
+    for _ in 0..u64::MAX {
         match take_turn(&mut input, &mut output, &mut src, &mut out, held)? {
-            Turn::Ended => return Ok(()),
-            Turn::Held(n) => held = n,
+            Some(left) => held = left,
+            None => return Ok(()),
         }
-        turns -= 1;
     }
     Ok(())
 }

@@ -4,6 +4,8 @@ use mathlib.Core.List.{List, [], ◌++◌, append_assoc}
 use Prim.Native.Nat.{ℕ, ◌+◌}
 use lib.ListN.{length, drop}
 use lib.Seq.{drop-drop, drop_at}
+use Rattle.std.specs.Prelude.{Option, Some, None, Result, Ok, Err}
+use Rattle.std.specs.Result.{result_ok}
 use Rattle.reading.specs.declared.Refusal.{Refusal}
 use Rattle.reading.specs.Reading.{Env, State, Out, got, stop, Reader, stand}
 use Rattle.reading.proofs.Sound.{never}
@@ -18,6 +20,40 @@ begins-right {o} {at} u v b = record { after = b.after; begins = sym (drop-drop 
 
 pub moved : {o : List ℕ} {at to : ℕ} {u : List ℕ} → to ≡ at → Begins o at u → Begins o to u
 moved {o} {u = u} e b = subst (λ (n : ℕ). Begins o n u) (sym e) b
+
+-- what a result was that is taken as an option
+pub ok-was : {A E : Type 0} (x : Result A E) {y : Option A} {a : A} → y ≡ result_ok x → y ≡ Some a → x ≡ Ok a
+ok-was {A} (Ok b) {a = a} p q = let e : ◌≡◌ {A = Option A} (Some b) (Some a) = sym p ∙ q in cc
+ok-was {A} (Err e) {a = a} p q = let n : ◌≡◌ {A = Option A} None (Some a) = sym p ∙ q in cc
+
+pub err-was : {A E : Type 0} (x : Result A E) {y : Option A} → y ≡ result_ok x → y ≡ None → (e : E) × (x ≡ Err e)
+err-was {A} (Ok b) p q = let n : ◌≡◌ {A = Option A} (Some b) None = sym p ∙ q in cc
+err-was (Err e) p q = (e, refl)
+
+-- what is there, by the case of it
+pub some-as : {A : Type 0} {x : Option A} {a b : A} → x ≡ Some a → a ≡ b → x ≡ Some b
+some-as q e = q ∙ ap Some e
+
+-- two places that are given with something are one, and so is what is given
+module _ {A B : Type 0} {a b : A} {x y : B} (e : ◌≡◌ {A = Option (A × B)} (Some (a, x)) (Some (b, y))) where
+  pair-same : ◌≡◌ {A = A × B} (a, x) (b, y)
+  pair-same = cc
+
+  pub some-first : a ≡ b
+  some-first = ap (λ (p : A × B). p.0) pair-same
+
+  pub some-second : x ≡ y
+  some-second = ap (λ (p : A × B). p.1) pair-same
+
+module _ {A B E : Type 0} {a b : A} {x y : B} (e : ◌≡◌ {A = Result (A × B) E} (Ok (a, x)) (Ok (b, y))) where
+  same-pair : ◌≡◌ {A = A × B} (a, x) (b, y)
+  same-pair = cc
+
+  pub ok-first : a ≡ b
+  ok-first = ap (λ (p : A × B). p.0) same-pair
+
+  pub ok-second : x ≡ y
+  ok-second = ap (λ (p : A × B). p.1) same-pair
 
 -- no identities: what is read here does not ask for them
 abbrev pub unnamed : Env

@@ -15,14 +15,14 @@ use borrow.Author.Tests.{le-leb, lt-ltb, le-ltb, ltb-true, ltb-false, eqb-true}
 use mir.Syntax.{w32, w64}
 use mir.Val.{SFits, to_z, of_z}
 use mir.ValLaws.{to_z_pos}
+use Rattle.std.specs.Result.{result_ok}
+use Rattle.std.specs.Prelude.{Some, None, Result, Ok, Err, Option}
 use Rattle.reading.specs.declared.Refusal.{Refusal}
 use Rattle.reading.specs.Reading.{Out, got, stand, follow, ◌>>=◌, return}
 use Rattle.reading.proofs.Sound.{never}
 use Rattle.reading.proofs.Does.{Does}
 use Rattle.integer.specs.Packed.{wide32, wide64, spell_int}
-use Rattle.integer.specs.declared.Read64.{Read64}
-use Rattle.integer.specs.declared.Read64.TheVariants.{Int64, Refused64}
-use Rattle.integer.specs.Answers.{out64, Past64, Knows64}
+use Rattle.integer.specs.Answers.{out, Past, Knows64}
 use Rattle.integer.proofs.Laws.{integer-does, enough32, enough64}
 use Rattle.integer.proofs.Signs.{held}
 use Rattle.format.specs.Types.{Datum, packed, fixed, code, amount, implied, Sort, integral, Kind, scalar, uncarried, table, kind_of}
@@ -38,38 +38,29 @@ use Rattle.laws.proofs.Leaves.{number-does, element-does, big_spelt-long}
 use Rattle.laws.proofs.Characters.{run-does, character-does}
 use Rattle.scalar.specs.declared.Bits.{Bits}
 use Rattle.scalar.specs.declared.Bits.TheVariants.{Bits16, Bits32, Bits64}
-use Rattle.scalar.specs.declared.Coded.{Coded}
-use Rattle.scalar.specs.declared.Coded.TheVariants.{Code, Lost}
 use Rattle.scalar.specs.Answers.{width_of, big_at, Size, code_out, CodePast, Codes}
-use Rattle.decide.specs.declared.Element.{Element}
-use Rattle.decide.specs.declared.Element.TheVariants.{Of, NoType}
-use Rattle.decide.specs.declared.Amount.{Amount}
-use Rattle.decide.specs.declared.Amount.TheVariants.{Number as Amounts, NoNumber}
 use Rattle.decide.specs.Elements.{amount_out, PastAmount, AmountAt, TypeIs, TypeAt}
 use Rattle.decide.specs.declared.Form.{Form}
-use Rattle.decide.specs.declared.Typed.{Typed}
-use Rattle.decide.specs.declared.Typed.TheVariants.{Standing, Untyped}
 use Rattle.decide.specs.Forms.{Says, unknown, known, says, own_by, own_of, IdentifierIs, TypedBy, TypedAt, OfType}
-use Rattle.fill.specs.declared.Numbered.TheVariants.{Number, Missing}
 use Rattle.fill.specs.Numbers.{Begins, StandsBy, Stands, NumberAt, Implied}
 use Rattle.fill.proofs.Begins.{unnamed, same_place, same-value, read_is, found, not-refused}
 
 -- ---- types
 
 -- the type of a value that stands in a form
-pub typed-is : {o : List ℕ} {form : Form} {at : ℕ} {x : Typed} → TypedAt o form at x → (h : Head) → Stands form h → Begins o at (identifier h) → x ≡ Standing (at + length (identifier h)) h.ty
+pub typed-is : {o : List ℕ} {form : Form} {at : ℕ} {x : Result (ℕ × ℤ) Refusal} → TypedAt o form at x → (h : Head) → Stands form h → Begins o at (identifier h) → x ≡ Ok (at + length (identifier h), h.ty)
 typed-is {o} {form} {at} {x} typed h s b = by (says form) x typed.is s.0
   where
-    whole : (y : Typed) → IdentifierIs o at y → h.own ≡ 1 → Int32 h.ty → y ≡ Standing (at + length (identifier h)) h.ty
-    whole (Standing from t) i a f =
+    whole : (y : Result (ℕ × ℤ) Refusal) → IdentifierIs o at y → h.own ≡ 1 → Int32 h.ty → y ≡ Ok (at + length (identifier h), h.ty)
+    whole (Ok (from, t)) i a f =
         let w = found (integer-does wide32 enough32 h.ty unnamed f) (subst (Begins o at) (owned h a) b) (sym (i.2 unnamed)) in
         rw (owned h a, ← w.1, ← w.0)
-    whole (Untyped r) i a f = absurd (not-refused (integer-does wide32 enough32 h.ty unnamed f) (subst (Begins o at) (owned h a) b) (sym (i unnamed)))
+    whole (Err r) i a f = absurd (not-refused (integer-does wide32 enough32 h.ty unnamed f) (subst (Begins o at) (owned h a) b) (sym (i unnamed)))
 
-    by : (k : Says) (y : Typed) → TypedBy o k at y → StandsBy k h → y ≡ Standing (at + length (identifier h)) h.ty
+    by : (k : Says) (y : Result (ℕ × ℤ) Refusal) → TypedBy o k at y → StandsBy k h → y ≡ Ok (at + length (identifier h), h.ty)
     by unknown y i s = whole y i s.0 s.1
-    by (known t) (Standing from u) i s = rw (unowned h s.0, add-zero, s.1, i.0, i.1)
-    by (known t) (Untyped r) i s = absurd i
+    by (known t) (Ok (from, u)) i s = rw (unowned h s.0, add-zero, s.1, i.0, i.1)
+    by (known t) (Err r) i s = absurd i
 
 pub own_is : (form : Form) (h : Head) → Stands form h → own_of form ≡ h.own
 own_is form h s = by (says form) s.0
@@ -88,28 +79,28 @@ of-type form h s = by (says form) s.0
 
 -- ---- element types, where one stands
 
-abbrev pub PastElement : List ℕ → ℕ → Element → Type 0
-PastElement o at (Of next t) = (at ≤ next) × (next ≤ length o)
-PastElement o at (NoType r) = Unit {0}
+abbrev pub PastElement : List ℕ → ℕ → Result (ℕ × ℤ) Refusal → Type 0
+PastElement o at (Ok (next, t)) = (at ≤ next) × (next ≤ length o)
+PastElement o at (Err r) = Unit {0}
 
-pub record ElementaryAt (o : List ℕ) (on : Bool) (at : ℕ) (r : Element) : Type 0 where
+pub record ElementaryAt (o : List ℕ) (on : Bool) (at : ℕ) (r : Result (ℕ × ℤ) Refusal) : Type 0 where
   pub past : PastElement o at r
-  pub same : (t : ℤ) → Elements on t → Begins o at (spell_element on t) → r ≡ Of (at + length (spell_element on t)) t
+  pub same : (t : ℤ) → Elements on t → Begins o at (spell_element on t) → r ≡ Ok (at + length (spell_element on t), t)
 
-pub elementary-at : {o : List ℕ} {on : Bool} {at : ℕ} {x : Element} → TypeAt o on at x → ElementaryAt o on at x
+pub elementary-at : {o : List ℕ} {on : Bool} {at : ℕ} {x : Result (ℕ × ℤ) Refusal} → TypeAt o on at x → ElementaryAt o on at x
 elementary-at {o} {on} {at} {x} type_at = by x type_at.is
   where
-    by : (y : Element) → TypeIs o on at y → ElementaryAt o on at y
-    by (Of next t) p = record {
+    by : (y : Result (ℕ × ℤ) Refusal) → TypeIs o on at y → ElementaryAt o on at y
+    by (Ok (next, t)) p = record {
       past = (p.1, p.2);
       same = λ y g b. let w = found (element-does on y unnamed g) b (sym (p.3 unnamed)) in rw (← w.1, ← w.0);
     }
-    by (NoType r) p = record {
+    by (Err r) p = record {
       past = tt;
       same = λ y g b. absurd (not-refused (element-does on y unnamed g) b (sym (p unnamed)));
     }
 
-pub element-none : {o : List ℕ} {on : Bool} {at : ℕ} → on ≡ false → at ≤ length o → ElementaryAt o on at (Of at (pos 0))
+pub element-none : {o : List ℕ} {on : Bool} {at : ℕ} → on ≡ false → at ≤ length o → ElementaryAt o on at (Ok (at, pos 0))
 unfolding spell_element
 element-none off h = rw off record { past = (omega arith, h); same = λ y g b. rw (add-zero, g) }
 
@@ -120,26 +111,29 @@ narrow Bits16 z h = omega arith
 narrow Bits32 z h = omega arith
 narrow Bits64 z h = h
 
-module _ {o : List ℕ} {at : ℕ} {x : Read64} (known : Knows64 o at x) where
+module _ {o : List ℕ} {at : ℕ} {x : Result (ℕ × ℤ) Refusal} (known : Knows64 o at x) where
   -- what is found, where the octets begin with an integer
-  int_is : (w : Bits) (y : ℤ) → mag y < (width_of w).bound → (b : Begins o at (spell_int y)) → out64 o unnamed x ≡ got y (record { at = at + length (spell_int y); left = b.after; env = unnamed })
+  int_is : (w : Bits) (y : ℤ) → mag y < (width_of w).bound → (b : Begins o at (spell_int y)) → out (λ z. z) o unnamed x ≡ got y (record { at = at + length (spell_int y); left = b.after; env = unnamed })
   int_is w y g b = known.same unnamed y _ (read_is (integer-does wide64 enough64 y unnamed (narrow w y g)) b)
 
-  pub int-found : {next : ℕ} {z : ℤ} → x ≡ Int64 next z → mag z < 2 ^ 63 → (w : Bits) → NumberAt o (packed (width_of w)) at (Number next (to_z w64 (of_z w64 z)))
+  int-found : {next : ℕ} {z : ℤ} → x ≡ Ok (next, z) → (w : Bits) → NumberAt o (packed (width_of w)) at (Some (next, z))
   unfolding spell_number stand
-  int-found {next} {z} q f w =
-      let p = subst (Past64 o at) q known.past in
-      rw (held {w = w64} {z = z} (record { sfits = f })) record {
-        past = (omega arith, p.1);
-        same = λ y g b. let v = ap (out64 o unnamed) (sym q) ∙ int_is w y g b in rw (← same_place v, ← same-value v);
-      }
+  int-found {next} {z} q w = record {
+    past = let p = subst (Past o at) q known.past in (omega arith, p.1);
+    same = λ y g b. let v = ap (out (λ z. z) o unnamed) (sym q) ∙ int_is w y g b in rw (← same_place v, ← same-value v);
+  }
 
-  pub int-missing : {y : Refusal} → x ≡ Refused64 y → (w : Bits) → NumberAt o (packed (width_of w)) at Missing
+  int-missing : {y : Refusal} → x ≡ Err y → (w : Bits) → NumberAt o (packed (width_of w)) at None
   unfolding spell_number
-  int-missing q w = record { past = tt; same = λ y g b. absurd (never (ap (out64 o unnamed) (sym q) ∙ int_is w y g b)) }
+  int-missing q w = record { past = tt; same = λ y g b. absurd (never (ap (out (λ z. z) o unnamed) (sym q) ∙ int_is w y g b)) }
 
-module _ {o : List ℕ} {at : ℕ} {x : Amount} (amounts : AmountAt o at x) where
-  pub amount-found : {next n : ℕ} → x ≡ Amounts next n → NumberAt o amount at (Number next (pos n))
+-- taken as an option
+pub int-known : {o : List ℕ} {at : ℕ} (x : Result (ℕ × ℤ) Refusal) {y : Option (ℕ × ℤ)} → Knows64 o at x → y ≡ result_ok x → (w : Bits) → NumberAt o (packed (width_of w)) at y
+int-known (Ok (next, z)) k e w = rw e (int-found k refl w)
+int-known (Err r) k e w = rw e (int-missing k refl w)
+
+module _ {o : List ℕ} {at : ℕ} {x : Result (ℕ × ℕ) Refusal} (amounts : AmountAt o at x) where
+  pub amount-found : {next n : ℕ} → x ≡ Ok (next, n) → NumberAt o amount at (Some (next, pos n))
   amount-found {next} {n} q =
       let p = subst (PastAmount o at) q amounts.past in record {
         past = (omega arith, p.1);
@@ -148,27 +142,27 @@ module _ {o : List ℕ} {at : ℕ} {x : Amount} (amounts : AmountAt o at x) wher
             rw (← v.1, ← v.0);
       }
 
-  pub amount-past : {next n : ℕ} → x ≡ Amounts next n → (at < next) × (next ≤ length o) × (n < 2 ^ 31)
+  pub amount-past : {next n : ℕ} → x ≡ Ok (next, n) → (at < next) × (next ≤ length o) × (n < 2 ^ 31)
   amount-past q = subst (PastAmount o at) q amounts.past
 
-  pub amount-held : {next n : ℕ} → x ≡ Amounts next n → to_z w64 n ≡ pos n
+  pub amount-held : {next n : ℕ} → x ≡ Ok (next, n) → to_z w64 n ≡ pos n
   amount-held {next} {n} q = let p = amount-past q in to_z_pos w64 n (omega arith)
 
-  pub amount-number : {next n : ℕ} → x ≡ Amounts next n → NumberAt o amount at (Number next (to_z w64 n))
+  pub amount-number : {next n : ℕ} → x ≡ Ok (next, n) → NumberAt o amount at (Some (next, to_z w64 n))
   amount-number q = rw (amount-held q) (amount-found q)
 
-  pub amount-missing : {y : Refusal} → x ≡ NoNumber y → NumberAt o amount at Missing
+  pub amount-missing : {y : Refusal} → x ≡ Err y → NumberAt o amount at None
   amount-missing q = record {
     past = tt;
     same = λ y g b. absurd (not-refused (number-does amount y unnamed refl g) b (ap (amount_out o unnamed) (sym q) ∙ amounts.same unnamed));
   }
 
-module _ {o : List ℕ} {at : ℕ} {x : Coded} (codes : Codes o at x) where
+module _ {o : List ℕ} {at : ℕ} {x : Option (ℕ × ℕ)} (codes : Codes o at x) where
   coded : (y : ℤ) (c : ℕ) → y ≡ pos c → c < 2 ^ 16 → (b : Begins o at (spell_number code y)) → code_out o unnamed x ≡ got c (record { at = at + length (spell_number code y); left = b.after; env = unnamed })
   unfolding spell_number
   coded y c e h b = codes.same unnamed c _ (read_is (subst (λ (v : ℤ). Does character unnamed (spell_char (mag v)) c unnamed) (sym e) (character-does c unnamed h)) b)
 
-  pub code-found : {next n : ℕ} → x ≡ Code next n → NumberAt o code at (Number next (to_z w64 n))
+  pub code-found : {next n : ℕ} → x ≡ Some (next, n) → NumberAt o code at (Some (next, to_z w64 n))
   unfolding stand
   code-found {next} {n} q =
       let p = subst (CodePast o at) q codes.past in
@@ -179,7 +173,7 @@ module _ {o : List ℕ} {at : ℕ} {x : Coded} (codes : Codes o at x) where
             rw (← same_place v, g.2, ← same-value v);
       }
 
-  pub code-missing : x ≡ Lost → NumberAt o code at Missing
+  pub code-missing : x ≡ None → NumberAt o code at None
   code-missing q = record { past = tt; same = λ y g b. absurd (never (ap (code_out o unnamed) (sym q) ∙ coded y g.0 g.2 g.1 b)) }
 
 -- octets that begin with so many are as many at least
@@ -196,10 +190,10 @@ unfolding spell_number
 spelt-long n y = big_spelt-long n (unsigned y)
 
 module _ {o : List ℕ} {at n : ℕ} (size : Size n) (h : at ≤ length o) where
-  pub fixed-missing : length o - at < n → NumberAt o (fixed n) at Missing
+  pub fixed-missing : length o - at < n → NumberAt o (fixed n) at None
   fixed-missing l = record { past = tt; same = λ y g b. absurd (omega (arith, begins-long h b, spelt-long n y)) }
 
-  pub fixed-found : {z : ℤ} → n ≤ length o - at → z ≡ bits (big_at o at n) → mag z < 2 ^ 63 → NumberAt o (fixed n) at (Number (at + n) (to_z w64 (of_z w64 z)))
+  pub fixed-found : {z : ℤ} → n ≤ length o - at → z ≡ bits (big_at o at n) → mag z < 2 ^ 63 → NumberAt o (fixed n) at (Some (at + n, to_z w64 (of_z w64 z)))
   unfolding number ◌>>=◌ return
   fixed-found {z} l e f =
       rw (held {w = w64} {z = z} (record { sfits = f })) record {

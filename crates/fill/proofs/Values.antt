@@ -7,6 +7,7 @@ use native.Mathlib.Omega.{arith}
 use native.Mathlib.Nat.{add-zero}
 use lib.ListN.{length, length-append}
 use lib.IntN.{pos}
+use Rattle.std.specs.Prelude.{Option, Some, None}
 use Rattle.format.specs.declared.Row.{Row}
 use Rattle.format.specs.Types.{Holds, nothing, values, couples, indexes, properties, one, parts, kind_of}
 use Rattle.format.specs.Values.{Head, Children, empty, child, value, rule_by, rule_of}
@@ -17,16 +18,14 @@ use Rattle.decide.specs.declared.Form.{Form}
 use Rattle.decide.specs.declared.Form.TheVariants.{Whole}
 use Rattle.decide.specs.declared.Nest.{Nest}
 use Rattle.fill.specs.declared.Found.{Found}
-use Rattle.fill.specs.declared.Found.TheVariants.{Leaf, Holder, Unread as NoRow}
-use Rattle.fill.specs.declared.Step.{Step}
-use Rattle.fill.specs.declared.Step.TheVariants.{On, Unread}
+use Rattle.fill.specs.declared.Found.TheVariants.{Leaf, Holder}
 use Rattle.columns.specs.Columns.{Stored, put_row, Blank, puts, Single}
 use Rattle.fill.specs.Numbers.{Begins}
 use Rattle.decide.specs.Forms.{nest_with}
 use Rattle.fill.specs.Rows.{nest_by, nest_of, found_by, front_row, PastFound, RowAt}
 use Rattle.fill.specs.Filling.{Fillable, Within, Fit, closed, Advanced, FilledValue, FilledElements}
 use Rattle.fill.proofs.Begins.{begins-left, begins-right, moved}
-use Rattle.columns.proofs.Columns.{blank-later}
+use Rattle.columns.proofs.Storing.{blank-later}
 
 -- ---- rows and spelling, by what the code keeps of a container
 
@@ -56,15 +55,15 @@ rows-count x at (child i h cs more) = ap suc (length-append (rows_from _ _ cs) (
 
 leaf-is : (x : Holds) (n : Nest) {r row : Row} → found_by x r n ≡ Leaf row → (x ≡ nothing) × (r ≡ row)
 leaf-is nothing n e = (refl, cc)
-leaf-is values n e = let z : ◌≡◌ {A = ℕ} 0 1 = cc in absurd (omega arith)
-leaf-is couples n e = let z : ◌≡◌ {A = ℕ} 0 1 = cc in absurd (omega arith)
-leaf-is indexes n e = let z : ◌≡◌ {A = ℕ} 0 1 = cc in absurd (omega arith)
-leaf-is properties n e = let z : ◌≡◌ {A = ℕ} 0 1 = cc in absurd (omega arith)
-leaf-is one n e = let z : ◌≡◌ {A = ℕ} 0 1 = cc in absurd (omega arith)
-leaf-is (parts d) n e = let z : ◌≡◌ {A = ℕ} 0 1 = cc in absurd (omega arith)
+leaf-is values n e = cc
+leaf-is couples n e = cc
+leaf-is indexes n e = cc
+leaf-is properties n e = cc
+leaf-is one n e = cc
+leaf-is (parts d) n e = cc
 
 holder-is : (x : Holds) (n : Nest) {m : Nest} {r row : Row} → found_by x r n ≡ Holder row m → (r ≡ row) × (n ≡ m)
-holder-is nothing n e = let z : ◌≡◌ {A = ℕ} 0 1 = cc in absurd (omega arith)
+holder-is nothing n e = cc
 holder-is values n e = (cc, cc)
 holder-is couples n e = (cc, cc)
 holder-is indexes n e = (cc, cc)
@@ -72,14 +71,8 @@ holder-is properties n e = (cc, cc)
 holder-is one n e = (cc, cc)
 holder-is (parts d) n e = (cc, cc)
 
-never-unread : (x : Holds) (n : Nest) (r : Row) → found_by x r n ≡ NoRow → ⊥
-never-unread nothing n r e = let z : ◌≡◌ {A = ℕ} 0 1 = cc in omega arith
-never-unread values n r e = let z : ◌≡◌ {A = ℕ} 0 1 = cc in omega arith
-never-unread couples n r e = let z : ◌≡◌ {A = ℕ} 0 1 = cc in omega arith
-never-unread indexes n r e = let z : ◌≡◌ {A = ℕ} 0 1 = cc in omega arith
-never-unread properties n r e = let z : ◌≡◌ {A = ℕ} 0 1 = cc in omega arith
-never-unread one n r e = let z : ◌≡◌ {A = ℕ} 0 1 = cc in omega arith
-never-unread (parts d) n r e = let z : ◌≡◌ {A = ℕ} 0 1 = cc in omega arith
+found-same : {a b : Found} → ◌≡◌ {A = Option Found} (Some a) (Some b) → a ≡ b
+found-same e = cc
 
 bare-nest : (d : ℕ) (cs : Children) → Fillable d (nest_with false false Whole Whole 0) 0 cs → cs ≡ empty
 unfolding Fillable
@@ -123,52 +116,52 @@ more-put : (lim k : ℕ) (t : Table) (r : Row) (rs : List Row) → put_row lim (
 unfolding puts
 more-put lim k t r rs = refl
 
-module _ {o : List ℕ} {form : Form} {i at : ℕ} {x : Found} (row_at : RowAt o form i at x) where
-  accepted : {d : ℕ} (h : Head) (cs : Children) → Fit d form h cs → Begins o at (spell (value h cs)) → x ≡ found_by (kind_of h.ty).holds (front_row i h at) (nest_of h cs)
+module _ {o : List ℕ} {form : Form} {i at : ℕ} {x : Option Found} (row_at : RowAt o form i at x) where
+  accepted : {d : ℕ} (h : Head) (cs : Children) → Fit d form h cs → Begins o at (spell (value h cs)) → x ≡ Some (found_by (kind_of h.ty).holds (front_row i h at) (nest_of h cs))
   accepted h cs f b =
       let b' = subst (Begins o at) (spell-is h cs) b in
       row_at.same (value h cs) f.stands f.carried f.good f.dated (begins-left (fore h) (spell_children (nest_of h cs).indexed cs) b') (begins-right (fore h) (spell_children (nest_of h cs).indexed cs) b')
 
   module _ {lim k d : ℕ} {t : Table} where
-    pub value-unread : x ≡ NoRow → FilledValue o lim form i at k d t Unread t
-    value-unread q = record { advanced = tt; same = λ h cs f b r z. absurd (never-unread (kind_of h.ty).holds (nest_of h cs) (front_row i h at) (sym (accepted h cs f b) ∙ q)) }
+    pub value-unread : x ≡ None → FilledValue o lim form i at k d t None t
+    value-unread q = record { advanced = tt; same = λ h cs f b r z. let e = sym (accepted h cs f b) ∙ q in cc }
 
-    pub value-leaf : {row : Row} {t' : Table} → x ≡ Leaf row → k < lim → (Single row → Blank lim k t → Stored lim k row t t') → FilledValue o lim form i at k d t (On row.end (k + 1)) t'
+    pub value-leaf : {row : Row} {t' : Table} → x ≡ Some (Leaf row) → k < lim → (Single row → Blank lim k t → Stored lim k row t t') → FilledValue o lim form i at k d t (Some (row.end, k + 1)) t'
     value-leaf {row} {t'} q l st = let p = subst (PastFound o at) q row_at.past in record {
       advanced = (p.0, p.1, omega arith, omega arith);
       same = λ h cs f b r z.
-          let w = leaf-is (kind_of h.ty).holds (nest_of h cs) (sym (accepted h cs f b) ∙ q) in
+          let w = leaf-is (kind_of h.ty).holds (nest_of h cs) (found-same (sym (accepted h cs f b) ∙ q)) in
           let e : cs ≡ empty = leaf-empty d h cs w.0 f.within in
-          subst (λ (y : Children). (On row.end (k + 1) ≡ On (at + length (spell (value h y))) (k + suc (count y))) × (t' ≡ puts lim t k (rows_from false at (child i h y empty)))) (sym e) (filled h w.0 w.1 (st p.2 z));
+          subst (λ (y : Children). (◌≡◌ {A = Option (ℕ × ℕ)} (Some (row.end, k + 1)) (Some (at + length (spell (value h y)), k + suc (count y)))) × (t' ≡ puts lim t k (rows_from false at (child i h y empty)))) (sym e) (filled h w.0 w.1 (st p.2 z));
     }
       where
-        filled : (h : Head) → (kind_of h.ty).holds ≡ nothing → front_row i h at ≡ row → Stored lim k row t t' → (On row.end (k + 1) ≡ On (at + length (spell (value h empty))) (k + suc (count empty))) × (t' ≡ puts lim t k (rows_from false at (child i h empty empty)))
-        filled h e z st = (ap₂ On (sym (ap (λ (m : Row). m.end) z) ∙ ap (λ (l : List ℕ). at + length l) (sym (leaf-spelt h e))) (one_more k), st.stored ∙ ap (put_row lim t k) (sym z) ∙ one-put lim k t (front_row i h at) ∙ ap (puts lim t k) (sym (leaf-rows i at h e)))
+        filled : (h : Head) → (kind_of h.ty).holds ≡ nothing → front_row i h at ≡ row → Stored lim k row t t' → (◌≡◌ {A = Option (ℕ × ℕ)} (Some (row.end, k + 1)) (Some (at + length (spell (value h empty)), k + suc (count empty)))) × (t' ≡ puts lim t k (rows_from false at (child i h empty empty)))
+        filled h e z st = (ap₂ (λ (y z : ℕ). Some (y, z)) (sym (ap (λ (m : Row). m.end) z) ∙ ap (λ (l : List ℕ). at + length l) (sym (leaf-spelt h e))) (one_more k), st.stored ∙ ap (put_row lim t k) (sym z) ∙ one-put lim k t (front_row i h at) ∙ ap (puts lim t k) (sym (leaf-rows i at h e)))
 
-    pub value-deep : {row : Row} {n : Nest} → x ≡ Holder row n → d ≡ 0 → FilledValue o lim form i at k d t Unread t
+    pub value-deep : {row : Row} {n : Nest} → x ≡ Some (Holder row n) → d ≡ 0 → FilledValue o lim form i at k d t None t
     value-deep q e = record { advanced = tt; same = λ h cs f b r z. absurd (subst (λ (y : ℕ). Within y (nest_of h cs) cs) e f.within) }
 
-    pub value-holder : {row : Row} {n : Nest} {r : Step} {t' : Table} → x ≡ Holder row n → (d ≡ 0 → ⊥) → FilledElements o lim row n k (k + 1) (d - 1) t r t' → FilledValue o lim form i at k d t r t'
+    pub value-holder : {row : Row} {n : Nest} {r : Option (ℕ × ℕ)} {t' : Table} → x ≡ Some (Holder row n) → (d ≡ 0 → ⊥) → FilledElements o lim row n k (k + 1) (d - 1) t r t' → FilledValue o lim form i at k d t r t'
     value-holder {row} {n} {r} {t'} q g el = record {
       advanced = by r el.advanced;
       same = λ h cs f b m z.
-          let w = holder-is (kind_of h.ty).holds (nest_of h cs) (sym (accepted h cs f b) ∙ q) in
+          let w = holder-is (kind_of h.ty).holds (nest_of h cs) (found-same (sym (accepted h cs f b) ∙ q)) in
           let dd : d ≡ suc (d - 1) = omega arith in
           let fits : Fillable (d - 1) n 0 cs = subst (λ (y : Nest). Fillable (d - 1) y 0 cs) w.1 (subst (λ (y : ℕ). Within y (nest_of h cs) cs) dd f.within) in
           let start : row.end ≡ at + length (fore h) = sym (ap (λ (y : Row). y.end) w.0) in
           let rest : Begins o row.end (spell_children n.indexed cs) = moved start (subst (λ (y : Nest). Begins o (at + length (fore h)) (spell_children y.indexed cs)) w.1 (begins-right (fore h) (spell_children (nest_of h cs).indexed cs) (subst (Begins o at) (spell-is h cs) b))) in
           let s = el.same cs fits rest (omega arith) (blank-later (omega arith) z) in
           let long : row.end + length (spell_children n.indexed cs) ≡ at + length (spell (value h cs)) = ap₂ (λ (a : ℕ) (y : Nest). a + length (spell_children y.indexed cs)) start (sym w.1) ∙ sym (spell-long h cs at) in
-          (s.0 ∙ ap₂ On long (omega arith), s.1 ∙ whole h cs w.0 w.1);
+          (s.0 ∙ ap₂ (λ (y z : ℕ). Some (y, z)) long (omega arith), s.1 ∙ whole h cs w.0 w.1);
     }
       where
-        by : (y : Step) → Advanced o lim row.end (k + 1) y → Advanced o lim at (suc k) y
-        by (On next rows) p = let a = subst (PastFound o at) q row_at.past in (omega arith, p.1, omega arith, p.3)
-        by Unread p = tt
+        by : (y : Option (ℕ × ℕ)) → Advanced o lim row.end (k + 1) y → Advanced o lim at (suc k) y
+        by (Some (next, rows)) p = let a = subst (PastFound o at) q row_at.past in (omega arith, p.1, omega arith, p.3)
+        by None p = tt
 
         whole : (h : Head) (cs : Children) → front_row i h at ≡ row → nest_of h cs ≡ n
             → put_row lim (puts lim t (k + 1) (rows_from n.indexed row.end cs)) k (closed row (count cs) (row.end + length (spell_children n.indexed cs))) ≡ puts lim t k (rows_from false at (child i h cs empty))
         whole h cs a b = rw (← a, ← b) (more-put lim k t (closed (front_row i h at) (count cs) (at + length (fore h) + length (spell_children (nest_of h cs).indexed cs))) (rows_from (nest_of h cs).indexed (at + length (fore h)) cs) ∙ ap (puts lim t k) (sym (value-rows i at h cs)))
 
-pub value-crowded : {o : List ℕ} {lim : ℕ} {form : Form} {i at k d : ℕ} {t : Table} → lim ≤ k → FilledValue o lim form i at k d t Unread t
+pub value-crowded : {o : List ℕ} {lim : ℕ} {form : Form} {i at k d : ℕ} {t : Table} → lim ≤ k → FilledValue o lim form i at k d t None t
 value-crowded l = record { advanced = tt; same = λ h cs f b r z. absurd (omega arith) }

@@ -5,8 +5,8 @@ use mathlib.Core.List.{List, [], append-nil}
 use Prim.Native.Nat.{ℕ, suc}
 use native.Mathlib.Omega.{arith}
 use lib.ListN.{length}
-use lib.IntN.{ℤ, pos}
 use borrow.Author.Tests.{le-ltb}
+use Rattle.std.specs.Prelude.{Option}
 use Rattle.format.specs.declared.Row.{Row}
 use Rattle.format.specs.Values.{child_of, empty, Value, levels}
 use Rattle.format.specs.Spelling.{spell_children, spell}
@@ -17,12 +17,12 @@ use Rattle.laws.proofs.Rows.{alone-spelt}
 use Rattle.decide.specs.declared.Form.TheVariants.{Whole}
 use Rattle.decide.specs.declared.Nest.{Nest}
 use Rattle.fill.specs.Rows.{CountedNest}
-use Rattle.fill.specs.declared.Step.{Step}
-use Rattle.columns.specs.Columns.{columns, Roomy, put_row, cleared, Blank, puts, Filled}
+use Rattle.columns.specs.Columns.{Roomy, put_row, Blank, puts, Filled}
+use Rattle.columns.specs.Lent.{Cleared}
 use Rattle.fill.specs.Numbers.{Begins}
 use Rattle.decide.specs.Forms.{nest_with}
 use Rattle.fill.specs.Filling.{FilledElements, FilledIn}
-use Rattle.columns.proofs.Columns.{puts-filled}
+use Rattle.columns.proofs.Storing.{puts-filled}
 use Rattle.columns.proofs.Cleared.{cleared-blank, filled-cleared}
 use Rattle.fill.proofs.Values.{rows-count}
 use Rattle.fill.proofs.Accepted.{valid-fillable}
@@ -40,7 +40,7 @@ begun : (o : List ℕ) (v : Value) → o ≡ spell v → Begins o 0 (spell_child
 unfolding Rattle.laws.proofs.Rows.alone spell
 begun o v e = record { after = []; begins = e ∙ sym (append-nil (spell_children false (child_of 0 v empty)) ∙ alone-spelt v) }
 
-module _ {o : List ℕ} {lim : ℕ} {row : Row} {d : ℕ} {t : Table} {r : Step} {t' : Table} where
+module _ {o : List ℕ} {lim : ℕ} {row : Row} {d : ℕ} {t : Table} {r : Option (ℕ × ℕ)} {t' : Table} where
   filled_in : FilledElements o lim row (nest_with false false Whole Whole 1) lim 0 d t r t' → d ≡ suc levels → row.end ≡ 0 → Roomy lim t → Blank lim 0 t → (v : Value) → Valid v → o ≡ spell v → length (rows v) ≡ lim → Filled 0 (rows v) t t'
   filled_in f dd e room blank v k s l =
       let c = child_of 0 v empty in
@@ -49,13 +49,10 @@ module _ {o : List ℕ} {lim : ℕ} {row : Row} {d : ℕ} {t : Table} {r : Step}
       let z : t' ≡ puts lim t 0 (rows v) = w.1 ∙ row-none lim _ _ ∙ rw (e, rows_are v) in
       subst (Filled 0 (rows v) t) (sym z) (puts-filled lim t 0 (rows v) (omega arith) room)
 
-module _ (lim : ℕ) (first second : List ℤ) (below : List ℕ) {ty number first₁ second₁ : List ℤ} {own label place below₁ start end : List ℕ} (p : first₁ ≡ cleared lim (pos 0) first) (q : second₁ ≡ cleared lim (pos 0) second) (s : below₁ ≡ cleared lim 0 below) where
-  pub filled-whole : {o : List ℕ} {row : Row} {d : ℕ} {n : Nest} {r : Step} {t' : Table} → n ≡ nest_with false false Whole Whole 1 → FilledElements o lim row n lim 0 d (columns ty own label number first₁ second₁ place below₁ start end) r t' → d ≡ suc levels → row.end ≡ 0
-      → Roomy lim (columns ty own label number first₁ second₁ place below₁ start end) → FilledIn o lim (columns ty own label number first second place below start end) t'
-  filled-whole {o} {row} {d} {r = r} {t' = t'} e f dd z room = record {
-    same = λ v k o_is l. filled-cleared lim first second below p q s (rows v) l
-        (filled_in (subst (λ (y : Nest). FilledElements o lim row y lim 0 d (columns ty own label number first₁ second₁ place below₁ start end) r t') e f) dd z room (cleared-blank lim first second below p q s) v k o_is l);
-  }
+pub filled-whole : {o : List ℕ} {lim : ℕ} {t u t' : Table} → Cleared lim t u → {row : Row} {d : ℕ} {n : Nest} {r : Option (ℕ × ℕ)} → n ≡ nest_with false false Whole Whole 1 → FilledElements o lim row n lim 0 d u r t' → d ≡ suc levels → row.end ≡ 0 → Roomy lim u → FilledIn o lim t t'
+filled-whole {o} {lim} {u = u} {t' = t'} c {row} {d} {r = r} e f dd z room = record {
+  same = λ v k o_is l. filled-cleared c (rows v) l (filled_in (subst (λ (y : Nest). FilledElements o lim row y lim 0 d u r t') e f) dd z room (cleared-blank c) v k o_is l);
+}
 
 pub one-count : {n : Nest} → n ≡ nest_with false false Whole Whole 1 → CountedNest n
 one-count q = rw q (omega arith, refl)

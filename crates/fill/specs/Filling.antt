@@ -1,5 +1,5 @@
 -- What filling comes to: where the octets are the spelling of values that may be filled in, their rows are stored, and nothing else.
-use Rattle.std.specs.Prelude.{◌≡◌, true, false, List, ℕ, zero, suc, ◌+◌, ◌^◌, ◌<◌, ◌≤◌, length}
+use Rattle.std.specs.Prelude.{◌≡◌, true, false, Option, Some, None, List, ℕ, zero, suc, ◌+◌, ◌^◌, ◌<◌, ◌≤◌, length}
 use Rattle.format.specs.declared.Row.{Row}
 use Rattle.format.specs.Types.{kind_of}
 use Rattle.format.specs.Values.{Head, Children, empty, child, Value, value}
@@ -11,8 +11,6 @@ use Rattle.decide.specs.declared.Form.{Form}
 use Rattle.decide.specs.declared.Nest.{Nest}
 use Rattle.decide.specs.Forms.{turn}
 use Rattle.decide.specs.Coming.{next_low}
-use Rattle.fill.specs.declared.Step.{Step}
-use Rattle.fill.specs.declared.Step.TheVariants.{On, Unread}
 use Rattle.columns.specs.Columns.{Roomy, put_row, Blank, puts, Filled}
 use Rattle.fill.specs.Numbers.{Begins, Stands}
 use Rattle.fill.specs.Rows.{nest_of, Dated, Follows, Ended}
@@ -49,21 +47,21 @@ pub record Ready (o : List ℕ) (lim at k : ℕ) (t : Table) : Type 0 where
   pub inside : at ≤ length o
   pub below : k ≤ lim
 
-abbrev pub Advanced : List ℕ → ℕ → ℕ → ℕ → Step → Type 0
-Advanced o lim at k (On next rows) = (at ≤ next) × (next ≤ length o) × (k ≤ rows) × (rows ≤ lim)
-Advanced o lim at k Unread = Unit {0}
+abbrev pub Advanced : List ℕ → ℕ → ℕ → ℕ → Option (ℕ × ℕ) → Type 0
+Advanced o lim at k (Some (next, rows)) = (at ≤ next) × (next ≤ length o) × (k ≤ rows) × (rows ≤ lim)
+Advanced o lim at k None = Unit {0}
 
 -- a value with label i, from `at` on: its rows stand from k on, where the three cleared columns had 0 from there on
-pub record FilledValue (o : List ℕ) (lim : ℕ) (form : Form) (i at k d : ℕ) (t : Table) (r : Step) (t' : Table) : Type 0 where
+pub record FilledValue (o : List ℕ) (lim : ℕ) (form : Form) (i at k d : ℕ) (t : Table) (r : Option (ℕ × ℕ)) (t' : Table) : Type 0 where
   pub advanced : Advanced o lim at (suc k) r
   pub same : (h : Head) (cs : Children) → Fit d form h cs → Begins o at (spell (value h cs)) → k + suc (count cs) ≤ lim → Blank lim k t
-      → (r ≡ On (at + length (spell (value h cs))) (k + suc (count cs))) × (t' ≡ puts lim t k (rows_from false at (child i h cs empty)))
+      → (r ≡ Some (at + length (spell (value h cs)), k + suc (count cs))) × (t' ≡ puts lim t k (rows_from false at (child i h cs empty)))
 
 -- the values of a container whose row, up to them, is given and belongs at k: their rows stand from `base` on, likewise
-pub record FilledElements (o : List ℕ) (lim : ℕ) (row : Row) (n : Nest) (k base d : ℕ) (t : Table) (r : Step) (t' : Table) : Type 0 where
+pub record FilledElements (o : List ℕ) (lim : ℕ) (row : Row) (n : Nest) (k base d : ℕ) (t : Table) (r : Option (ℕ × ℕ)) (t' : Table) : Type 0 where
   pub advanced : Advanced o lim row.end base r
   pub same : (cs : Children) → Fillable d n 0 cs → Begins o row.end (spell_children n.indexed cs) → base + count cs ≤ lim → Blank lim base t
-      → (r ≡ On (row.end + length (spell_children n.indexed cs)) (base + count cs))
+      → (r ≡ Some (row.end + length (spell_children n.indexed cs), base + count cs))
       × (t' ≡ put_row lim (puts lim t base (rows_from n.indexed row.end cs)) k (closed row (count cs) (row.end + length (spell_children n.indexed cs))))
 
 -- the rows of an accepted message, as many as lim, stand in the columns, from the first row on, and all else is as it was

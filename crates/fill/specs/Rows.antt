@@ -1,5 +1,5 @@
 -- The row of a value of accepted octets, and what the value holds.
-use Rattle.std.specs.Prelude.{◌≡◌, Bool, true, false, cond, List, ℕ, suc, ◌+◌, ◌-◌, ◌^◌, ◌<◌, ◌≤◌, length, ℤ, pos, negsuc}
+use Rattle.std.specs.Prelude.{◌≡◌, Bool, true, false, cond, Option, Some, None, List, ℕ, suc, ◌+◌, ◌-◌, ◌^◌, ◌<◌, ◌≤◌, length, ℤ, pos, negsuc}
 use Rattle.std.specs.Int.Signed.{mag}
 use Rattle.format.specs.declared.Row.{Row}
 use Rattle.format.specs.Types.{Holds, nothing, values, couples, indexes, properties, one, parts, Kind, kind_of}
@@ -14,13 +14,11 @@ use Rattle.decide.specs.declared.Form.TheVariants.{Whole, Named, Packed}
 use Rattle.decide.specs.declared.Nest.{Nest}
 use Rattle.decide.specs.declared.Inside.TheVariants.{List as Several, Pairs, Sparse, User}
 use Rattle.decide.specs.Forms.{says, Sound, OfType, listed_in, nest_with, nest_in}
-use Rattle.fill.specs.declared.Numbered.{Numbered}
-use Rattle.fill.specs.declared.Numbered.TheVariants.{Number, Missing}
 use Rattle.fill.specs.declared.Fore.{Fore}
 use Rattle.fill.specs.declared.Data.{Data}
-use Rattle.fill.specs.declared.Data.TheVariants.{Leaf, Holder, Unread}
+use Rattle.fill.specs.declared.Data.TheVariants.{Leaf, Holder}
 use Rattle.fill.specs.declared.Found.{Found}
-use Rattle.fill.specs.declared.Found.TheVariants.{Leaf as LeafRow, Holder as HolderRow, Unread as NoRow}
+use Rattle.fill.specs.declared.Found.TheVariants.{Leaf as LeafRow, Holder as HolderRow}
 use Rattle.fill.specs.Numbers.{Begins, Stands}
 
 -- ---- what a value holds
@@ -62,9 +60,9 @@ abbrev pub fore_of : Kind → Head → ℕ → Fore
 fore_of k h at = fore_with h.first h.second h.number (cond (has_contents k.text) (at + length (data_by k h) - length h.text) 0) (at + length (data_by k h))
 
 -- a number alone
-abbrev pub leaf_of : Numbered → Data
-leaf_of (Number next z) = Leaf (fore_with (pos 0) (pos 0) z 0 next)
-leaf_of Missing = Unread
+abbrev pub leaf_of : Option (ℕ × ℤ) → Option Data
+leaf_of (Some (next, z)) = Some (Leaf (fore_with (pos 0) (pos 0) z 0 next))
+leaf_of None = None
 
 abbrev pub data_with : Holds → Fore → Nest → Data
 data_with nothing f n = Leaf f
@@ -82,19 +80,19 @@ PastFore o at f = (at ≤ f.end) × (f.end ≤ length o) × (f.place ≤ length 
 abbrev pub CountedNest : Nest → Type 0
 CountedNest n = (n.count < 2 ^ 32) × (n.listed ≡ listed_in n.indexed n.count)
 
-abbrev pub PastData : List ℕ → ℕ → Data → Type 0
-PastData o at (Leaf f) = PastFore o at f × (f.first ≡ pos 0) × (f.second ≡ pos 0)
-PastData o at (Holder f n) = PastFore o at f × CountedNest n
-PastData o at Unread = Unit {0}
+abbrev pub PastData : List ℕ → ℕ → Option Data → Type 0
+PastData o at (Some (Leaf f)) = PastFore o at f × (f.first ≡ pos 0) × (f.second ≡ pos 0)
+PastData o at (Some (Holder f n)) = PastFore o at f × CountedNest n
+PastData o at None = Unit {0}
 
 -- the data of a value of a kind
-pub record DataAt (o : List ℕ) (k : Kind) (at : ℕ) (r : Data) : Type 0 where
+pub record DataAt (o : List ℕ) (k : Kind) (at : ℕ) (r : Option Data) : Type 0 where
   pub past : PastData o at r
   pub same : (h : Head) (cs : Children) → Good k h → Dated k.holds cs → Begins o at (data_by k h) → Begins o (at + length (data_by k h)) (spell_children (nest_by k k.holds h cs).indexed cs)
-      → r ≡ data_with k.holds (fore_of k h at) (nest_by k k.holds h cs)
+      → r ≡ Some (data_with k.holds (fore_of k h at) (nest_by k k.holds h cs))
 
 -- the data of a value that stands in a form, of a type that is carried
-pub record DataOf (o : List ℕ) (form : Form) (t : ℤ) (at : ℕ) (r : Data) : Type 0 where
+pub record DataOf (o : List ℕ) (form : Form) (t : ℤ) (at : ℕ) (r : Option Data) : Type 0 where
   pub past : PastData o at r
   pub same : Sound form → OfType (says form) t → (kind_of t).carried ≡ true → DataAt o (kind_of t) at r
 
@@ -115,16 +113,16 @@ found_by properties r n = HolderRow r n
 found_by one r n = HolderRow r n
 found_by (parts d) r n = HolderRow r n
 
-abbrev pub PastFound : List ℕ → ℕ → Found → Type 0
-PastFound o at (LeafRow r) = (at ≤ r.end) × (r.end ≤ length o) × Single r
-PastFound o at (HolderRow r n) = (at ≤ r.end) × (r.end ≤ length o) × CountedNest n
-PastFound o at NoRow = Unit {0}
+abbrev pub PastFound : List ℕ → ℕ → Option Found → Type 0
+PastFound o at (Some (LeafRow r)) = (at ≤ r.end) × (r.end ≤ length o) × Single r
+PastFound o at (Some (HolderRow r n)) = (at ≤ r.end) × (r.end ≤ length o) × CountedNest n
+PastFound o at None = Unit {0}
 
-pub record RowAt (o : List ℕ) (form : Form) (i at : ℕ) (r : Found) : Type 0 where
+pub record RowAt (o : List ℕ) (form : Form) (i at : ℕ) (r : Option Found) : Type 0 where
   pub past : PastFound o at r
   pub same : (v : Value) → Stands form v.top → (kind_of v.top.ty).carried ≡ true → Good (kind_of v.top.ty) v.top → Dated (kind_of v.top.ty).holds v.inside
       → Begins o at (fore v.top) → Begins o (at + length (fore v.top)) (spell_children (nest_of v.top v.inside).indexed v.inside)
-      → r ≡ found_by (kind_of v.top.ty).holds (front_row i v.top at) (nest_of v.top v.inside)
+      → r ≡ Some (found_by (kind_of v.top.ty).holds (front_row i v.top at) (nest_of v.top v.inside))
 
 -- ---- the next value of a container
 

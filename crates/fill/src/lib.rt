@@ -6,64 +6,52 @@ ghost use Rattle.scalar.specs.declared.Bits.{Bits};
 ghost use Rattle.scalar.specs.Answers.{Size, width_of};
 ghost use Rattle.scalar.specs.Moments.{parts_of};
 ghost use Rattle.decide.specs.Classes.{holds_of, text_of};
-ghost use Rattle.columns.specs.Columns.{columns};
+ghost use Rattle.columns.specs.Lent.{table, SameLoans};
 ghost use Rattle.fill.specs.Numbers.{NumberAt, Implied};
 ghost use Rattle.fill.specs.Rows.{fore_with, leaf_of, CountedNest, DataAt, DataOf, row_with, RowAt};
 ghost use Rattle.fill.specs.Filling.{closed, Ready, FilledValue, FilledElements, FilledIn};
 
-use decide::{Amount, Class, Element, Form, Nest, Next, Shape, Typed};
+use columns::ColumnsMut;
+use decide::{Class, Form, Nest, Next, Shape};
 use format::Row;
-use integer::Read64;
-use scalar::{Bits, Coded, Moment, Which};
+use scalar::{Bits, Which};
 
 // ---- The number of a value ----
 
-// The place past a value's number, and the number.
-#[derive(Clone, Copy)]
-pub enum Numbered {
-    Number(usize, i64),
-    Missing,
-}
+// Each gives the place past the number, and the number; or nothing, which is not so of accepted octets.
 
 // An integer, of any width.
-fn int_number(src: &[u8], at: usize) -> Numbered
+fn int_number(src: &[u8], at: usize) -> Option<(usize, i64)>
     ensures { (w : Bits) → NumberAt src.now (packed (width_of w)) at result }
 {
-    match integer::known64_at(src, at) {
-        Read64::Int64(next, z) => Numbered::Number(next, z),
-        Read64::Refused64(_) => Numbered::Missing,
-    }
+    integer::known64_at(src, at).ok()
 }
 
 // A number of one, four or eight octets.
-fn fixed_number(src: &[u8], at: usize, n: usize) -> Numbered
+fn fixed_number(src: &[u8], at: usize, n: usize) -> Option<(usize, i64)>
     requires { (Size n) × (at ≤ length src.now) }
     ensures { NumberAt src.now (fixed n) at result }
 {
     if src.len() - at < n {
-        return Numbered::Missing;
+        return None;
     }
-    Numbered::Number(at + n, scalar::bits_at(src, at, n))
+    Some((at + n, scalar::bits_at(src, at, n)))
 }
 
 // A character's code.
-fn code_number(src: &[u8], at: usize) -> Numbered
+fn code_number(src: &[u8], at: usize) -> Option<(usize, i64)>
     ensures { NumberAt src.now code at result }
 {
-    match scalar::code_at(src, at) {
-        Coded::Code(next, n) => Numbered::Number(next, n as i64),
-        Coded::Lost => Numbered::Missing,
-    }
+    let (next, n) = scalar::code_at(src, at)?;
+    Some((next, n as i64))
 }
 
 // A number of 0 or more.
-fn amount_number(src: &[u8], at: usize) -> Numbered
+fn amount_number(src: &[u8], at: usize) -> Option<(usize, i64)>
     ensures { NumberAt src.now amount at result }
 {
-    match decide::amount_at(src, at) {
-        Amount::Number(next, n) => Numbered::Number(next, n as i64),
-        Amount::NoNumber(_) => Numbered::Missing,
-    }
+    let (next, n) = decide::amount_at(src, at).ok()?;
+    Some((next, n as i64))
 }
 
 // The number of a type that has its value in itself: of -41 and below the integer that it says, 1 of true, 0 of the others.
@@ -97,7 +85,6 @@ pub struct Fore {
 pub enum Data {
     Leaf(Fore),
     Holder(Fore, Nest),
-    Unread,
 }
 
 // A number alone.
@@ -113,105 +100,83 @@ fn plain(number: i64, end: usize) -> Fore
     }
 }
 
-fn number_data(n: Numbered) -> Data
+fn number_data(n: Option<(usize, i64)>) -> Option<Data>
     ensures { result ≡ leaf_of n }
 {
-    match n {
-        Numbered::Missing => Data::Unread,
-        Numbered::Number(next, number) => Data::Leaf(plain(number, next)),
-    }
+    let (next, number) = n?;
+    Some(Data::Leaf(plain(number, next)))
 }
 
 // A string: a length, and contents.
-fn text_data(src: &[u8], at: usize) -> Data
+fn text_data(src: &[u8], at: usize) -> Option<Data>
     requires { at ≤ length src.now }
     ensures { (chars : Bool) → DataAt src.now (string (text_of chars)) at result }
 {
-    match decide::amount_at(src, at) {
-        Amount::NoNumber(_) => Data::Unread,
-        Amount::Number(next, n) => {
-            if src.len() - next < n as usize {
-                return Data::Unread;
-            }
-            Data::Leaf(Fore {
-                first: 0,
-                second: 0,
-                number: n as i64,
-                place: next,
-                end: next + n as usize,
-            })
-        }
+    let (next, n) = decide::amount_at(src, at).ok()?;
+    if src.len() - next < n as usize {
+        return None;
     }
+    Some(Data::Leaf(Fore {
+        first: 0,
+        second: 0,
+        number: n as i64,
+        place: next,
+        end: next + n as usize,
+    }))
 }
 
 // A date or time: a date has three integers; those of the others are read, to count them.
-fn moment_data(src: &[u8], at: usize, which: Which) -> Data
+fn moment_data(src: &[u8], at: usize, which: Which) -> Option<Data>
     requires { at ≤ length src.now }
     ensures { DataAt src.now (dated (parts_of which)) at result }
 {
-    match which {
-        Which::Date => Data::Holder(
-            plain(0, at),
-            decide::alike(Form::Packed(Bits::Bits32, -2), 3, false),
-        ),
-        _ => match scalar::moment_past(src, at, which) {
-            Moment::Unfit(_) => Data::Unread,
-            Moment::Parts(_, n) => Data::Holder(
-                plain(0, at),
-                decide::alike(Form::Packed(Bits::Bits32, -2), n, false),
-            ),
-        },
-    }
+    let count = match which {
+        Which::Date => 3,
+        _ => {
+            let (_, count) = scalar::moment_past(src, at, which).ok()?;
+            count
+        }
+    };
+    let integers = decide::alike(Form::Packed(Bits::Bits32, -2), count, false);
+    Some(Data::Holder(plain(0, at), integers))
 }
 
 // An identity: its number, and one value.
-fn identity_data(src: &[u8], at: usize) -> Data
+fn identity_data(src: &[u8], at: usize) -> Option<Data>
     requires { at ≤ length src.now }
     ensures { DataAt src.now (container false false one gives) at result }
 {
-    match decide::amount_at(src, at) {
-        Amount::NoNumber(_) => Data::Unread,
-        Amount::Number(next, n) => Data::Holder(
-            plain(n as i64, next),
-            decide::alike(Form::Named, 1, false),
-        ),
-    }
+    let (next, n) = decide::amount_at(src, at).ok()?;
+    let one = decide::alike(Form::Named, 1, false);
+    Some(Data::Holder(plain(n as i64, next), one))
 }
 
 // A container: its element types, its number, and what it holds.
-fn holder_data(src: &[u8], shape: Shape, at: usize) -> Data
+fn holder_data(src: &[u8], shape: Shape, at: usize) -> Option<Data>
     requires { at ≤ length src.now }
     ensures { DataAt src.now (container shape.first shape.second (holds_of shape.inside) silent) at result }
 {
-    match decide::type_at(src, shape.first, at) {
-        Element::NoType(_) => Data::Unread,
-        Element::Of(at2, first) => match decide::type_at(src, shape.second, at2) {
-            Element::NoType(_) => Data::Unread,
-            Element::Of(at3, second) => match decide::amount_at(src, at3) {
-                Amount::NoNumber(_) => Data::Unread,
-                Amount::Number(next, n) => Data::Holder(
-                    Fore {
-                        first,
-                        second,
-                        number: n as i64,
-                        place: 0,
-                        end: next,
-                    },
-                    decide::nest_of(shape, first, second, n),
-                ),
-            },
-        },
-    }
+    let (at2, first) = decide::type_at(src, shape.first, at).ok()?;
+    let (at3, second) = decide::type_at(src, shape.second, at2).ok()?;
+    let (next, n) = decide::amount_at(src, at3).ok()?;
+    let fore = Fore {
+        first,
+        second,
+        number: n as i64,
+        place: 0,
+        end: next,
+    };
+    Some(Data::Holder(fore, decide::nest_of(shape, first, second, n)))
 }
 
 // The data of a value that stands in a form, of a type.
-fn data_at(src: &[u8], form: Form, ty: i32, at: usize) -> Data
+fn data_at(src: &[u8], form: Form, ty: i32, at: usize) -> Option<Data>
     requires { at ≤ length src.now }
     ensures { DataOf src.now form ty at result }
 {
     match decide::class_in(form, ty) {
-        Class::Refused => Data::Unread,
-        Class::Small => Data::Leaf(plain(implied_number(ty), at)),
+        Class::Refused => None,
+        Class::Small => Some(Data::Leaf(plain(implied_number(ty), at))),
         Class::Int(_) => number_data(int_number(src, at)),
         Class::Fixed(n) => number_data(fixed_number(src, at, n)),
         Class::Char => number_data(code_number(src, at)),
@@ -230,15 +195,12 @@ fn data_at(src: &[u8], form: Form, ty: i32, at: usize) -> Data
 pub enum Found {
     Leaf(Row),
     Holder(Row, Nest),
-    Unread,
 }
 
 fn front_row(ty: i32, own: u8, label: u32, f: Fore, at: usize) -> Row
     requires { (at < 2 ^ 32) × (f.place < 2 ^ 32) × (f.end < 2 ^ 32) }
     ensures { result ≡ row_with ty own label f at }
 {
-    let place = f.place;
-    let end = f.end;
     Row {
         ty,
         own,
@@ -246,28 +208,28 @@ fn front_row(ty: i32, own: u8, label: u32, f: Fore, at: usize) -> Row
         number: f.number,
         first: f.first,
         second: f.second,
-        place: place as u32,
+        place: f.place as u32,
         below: 0,
         start: at as u32,
-        end: end as u32,
+        end: f.end as u32,
     }
 }
 
 // The row of the value at a place.
-fn row_at(src: &[u8], form: Form, label: u32, at: usize) -> Found
+fn row_at(src: &[u8], form: Form, label: u32, at: usize) -> Option<Found>
     requires { (at ≤ length src.now) × (length src.now < 2 ^ 32) }
     ensures { RowAt src.now form label at result }
 {
-    match decide::typed_at(src, form, at) {
-        Typed::Untyped(_) => Found::Unread,
-        Typed::Standing(from, ty) => match data_at(src, form, ty, from) {
-            Data::Unread => Found::Unread,
-            Data::Leaf(f) => Found::Leaf(front_row(ty, decide::own_of(form), label, f, at)),
-            Data::Holder(f, nest) => Found::Holder(
-                front_row(ty, decide::own_of(form), label, f, at),
-                nest,
-            ),
-        },
+    let (from, ty) = decide::typed_at(src, form, at).ok()?;
+    let own = decide::own_of(form);
+    // A `match`, and no `?`, here and below: the copies that `?` makes of a row took a fifth of the time of filling.
+    match data_at(src, form, ty, from) {
+        None => None,
+        Some(Data::Leaf(fore)) => Some(Found::Leaf(front_row(ty, own, label, fore, at))),
+        Some(Data::Holder(fore, nest)) => Some(Found::Holder(
+            front_row(ty, own, label, fore, at),
+            nest,
+        )),
     }
 }
 
@@ -279,84 +241,43 @@ fn closed_row(row: Row, below: usize, end: usize) -> Row
     ensures { result ≡ closed row below end }
 {
     Row {
-        ty: row.ty,
-        own: row.own,
-        label: row.label,
-        number: row.number,
-        first: row.first,
-        second: row.second,
-        place: row.place,
         below: below as u32,
-        start: row.start,
         end: end as u32,
+        ..row
     }
 }
 
-// How far filling came: the place and the row past what was filled in. Of accepted octets none are left unread.
-#[derive(Clone, Copy)]
-pub enum Step {
-    On(usize, usize),
-    Unread,
-}
-
-// Fills in the rows of the value at a place, from row k on.
+// Fills in the rows of the value at a place, from row k on: the place and the row past what was filled in. Of accepted octets nothing is left unread.
 #[cycle(fill_elements_fill_value)]
 fn fill_value(
     src: &[u8],
-    ty: &mut [i32],
-    own: &mut [u8],
-    label: &mut [u32],
-    number: &mut [i64],
-    first: &mut [i32],
-    second: &mut [i32],
-    place: &mut [u32],
-    below: &mut [u32],
-    start: &mut [u32],
-    end: &mut [u32],
+    columns: &mut ColumnsMut<'_>,
     lim: usize,
     form: Form,
     name: u32,
     at: usize,
     k: usize,
     depth: usize,
-) -> Step
-    requires { Ready src.now lim at k (columns ty.old own.old label.old number.old first.old second.old place.old below.old start.old end.old) }
-    ensures { FilledValue src.now lim form name at k depth (columns ty.old own.old label.old number.old first.old second.old place.old below.old start.old end.old) result (columns ty.new own.new label.new number.new first.new second.new place.new below.new start.new end.new) }
+) -> Option<(usize, usize)>
+    requires { Ready src.now lim at k (table columns.old) }
+    ensures lent { SameLoans columns.old columns.new }
+    ensures filled { FilledValue src.now lim form name at k depth (table columns.old) result (table columns.new) }
 {
     if lim <= k {
-        return Step::Unread;
+        return None;
     }
     match row_at(src, form, name, at) {
-        Found::Unread => Step::Unread,
-        Found::Leaf(row) => {
-            let past = row.end;
-            columns::put_leaf(ty, own, label, number, place, start, end, k, row);
-            Step::On(past as usize, k + 1)
+        None => None,
+        Some(Found::Leaf(row)) => {
+            columns.put_leaf(k, row);
+            Some((row.end as usize, k + 1))
         }
-        Found::Holder(row, nest) => {
+        Some(Found::Holder(row, nest)) => {
             if depth == 0 {
-                return Step::Unread;
+                return None;
             }
             // `&*` makes the slice's descriptor for this call, and not for every value.
-            fill_elements(
-                &*src,
-                ty,
-                own,
-                label,
-                number,
-                first,
-                second,
-                place,
-                below,
-                start,
-                end,
-                lim,
-                row,
-                nest,
-                k,
-                k + 1,
-                depth - 1,
-            )
+            fill_elements(&*src, columns, lim, row, nest, k, k + 1, depth - 1)
         }
     }
 }
@@ -365,135 +286,50 @@ fn fill_value(
 #[cycle(fill_elements_fill_value)]
 fn fill_elements(
     src: &[u8],
-    ty: &mut [i32],
-    own: &mut [u8],
-    label: &mut [u32],
-    number: &mut [i64],
-    first: &mut [i32],
-    second: &mut [i32],
-    place: &mut [u32],
-    below: &mut [u32],
-    start: &mut [u32],
-    end: &mut [u32],
+    columns: &mut ColumnsMut<'_>,
     lim: usize,
     row: Row,
     nest: Nest,
     k: usize,
     base: usize,
     depth: usize,
-) -> Step
-    requires { Ready src.now lim row.end base (columns ty.old own.old label.old number.old first.old second.old place.old below.old start.old end.old) × CountedNest nest }
-    ensures { FilledElements src.now lim row nest k base depth (columns ty.old own.old label.old number.old first.old second.old place.old below.old start.old end.old) result (columns ty.new own.new label.new number.new first.new second.new place.new below.new start.new end.new) }
+) -> Option<(usize, usize)>
+    requires { Ready src.now lim row.end base (table columns.old) × CountedNest nest }
+    ensures lent { SameLoans columns.old columns.new }
+    ensures filled { FilledElements src.now lim row nest k base depth (table columns.old) result (table columns.new) }
 {
-    let indexed = nest.indexed;
-    let paired = nest.paired;
-    let form = nest.form;
-    let other = nest.other;
-    let count = nest.count;
-    let listed = nest.listed;
-    let from = row.end;
-    let mut at = from as usize;
+    let mut at = row.end as usize;
     let mut low: u32 = 0;
     let mut rows = base;
+    // The nest says what comes next, or that it ends: no index is counted here.
     loop {
-        match decide::next_at(src, listed, indexed, paired, count, low, at) {
-            Next::Halt(_) => return Step::Unread,
+        match nest.next_at(src, low, at).ok()? {
             Next::End(next) => {
-                columns::put_row(
-                    ty,
-                    own,
-                    label,
-                    number,
-                    first,
-                    second,
-                    place,
-                    below,
-                    start,
-                    end,
-                    lim,
-                    k,
-                    closed_row(row, rows - base, next),
-                );
-                return Step::On(next, rows);
+                columns.put_row(lim, k, closed_row(row, rows - base, next));
+                return Some((next, rows));
             }
-            Next::Value(next, name, after) => match fill_value(
-                src,
-                ty,
-                own,
-                label,
-                number,
-                first,
-                second,
-                place,
-                below,
-                start,
-                end,
-                lim,
-                decide::turn_of(form, other, low),
-                name,
-                next,
-                rows,
-                depth,
-            ) {
-                Step::Unread => return Step::Unread,
-                Step::On(at2, rows2) => {
-                    at = at2;
-                    rows = rows2;
-                    low = after;
-                }
-            },
+            Next::Value(next, name, after) => {
+                let form = nest.form_at(low);
+                (at, rows) = fill_value(src, columns, lim, form, name, next, rows, depth)?;
+                low = after;
+            }
         }
     }
 }
 
 // Fills in the rows of an accepted message, of which there are `lim`. The columns in which only values that hold others store a number are cleared first.
 // The outermost value is read as the one value of a container whose own row, at the limit, is not stored. One level more than a message has, for the integers of a date or time.
-pub fn fill(
-    src: &[u8],
-    ty: &mut [i32],
-    own: &mut [u8],
-    label: &mut [u32],
-    number: &mut [i64],
-    first: &mut [i32],
-    second: &mut [i32],
-    place: &mut [u32],
-    below: &mut [u32],
-    start: &mut [u32],
-    end: &mut [u32],
-    lim: usize,
-)
-    requires { Ready src.now lim 0 0 (columns ty.old own.old label.old number.old first.old second.old place.old below.old start.old end.old) }
-    ensures { FilledIn src.now lim (columns ty.old own.old label.old number.old first.old second.old place.old below.old start.old end.old) (columns ty.new own.new label.new number.new first.new second.new place.new below.new start.new end.new) }
+pub fn fill(src: &[u8], columns: &mut ColumnsMut<'_>, lim: usize)
+    requires { Ready src.now lim 0 0 (table columns.old) }
+    ensures lent { SameLoans columns.old columns.new }
+    ensures filled { FilledIn src.now lim (table columns.old) (table columns.new) }
 {
-    columns::clear_types(first, lim);
-    columns::clear_types(second, lim);
-    columns::clear_counts(below, lim);
-    let row = Row {
-        ty: 0,
-        own: 0,
-        label: 0,
-        number: 0,
-        first: 0,
-        second: 0,
-        place: 0,
-        below: 0,
-        start: 0,
-        end: 0,
-    };
+    columns.clear(lim);
     fill_elements(
         src,
-        ty,
-        own,
-        label,
-        number,
-        first,
-        second,
-        place,
-        below,
-        start,
-        end,
+        columns,
         lim,
-        row,
+        Row::default(),
         decide::alike(Form::Whole, 1, false),
         lim,
         0,

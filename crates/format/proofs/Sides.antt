@@ -6,7 +6,7 @@ use mathlib.Core.List.{List, [], ◌∷◌}
 use Prim.Native.Nat.{ℕ, zero, suc}
 use lib.Dec.{eqb}
 use lib.IntN.{ℤ, pos, negsuc}
-use Rattle.reading.specs.Reading.{◌>>=◌, return, refuse, require, octet, here, ahead, names, rename, either}
+use Rattle.reading.specs.Reading.{number_of, ◌>>=◌, return, refuse, require, octet, here, ahead, names, rename, either}
 use Rattle.integer.specs.Packed.{further, integer, groups_by, groups, spell_with, spell_int}
 use Rattle.format.specs.declared.As.TheVariants.{Int32}
 use Rattle.format.specs.Types.{kind_of}
@@ -28,7 +28,7 @@ spells o (refused r) = false
 
 abbrev stops : ℕ → ℕ → Answer Value → Bool
 stops n p (ok v) = false
-stops n p (refused r) = eqb r.number n && eqb r.place p
+stops n p (refused r) = eqb (number_of r.reason) n && eqb r.place p
 
 abbrev gives : ℤ → Answer ℤ → Bool
 gives z (ok y) = eq_z y z
@@ -36,7 +36,7 @@ gives z (refused r) = false
 
 abbrev lacks : Answer ℤ → Bool
 lacks (ok y) = false
-lacks (refused r) = eqb r.number 15
+lacks (refused r) = eqb (number_of r.reason) 15
 
 abbrev asked : ℤ → ℤ → Answer ℤ
 asked t z = ask Int32 (record { ty = t; own = 1; label = 0; number = z; first = pos 0; second = pos 0; place = 0; below = 0; start = 0; end = 1 })

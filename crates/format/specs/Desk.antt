@@ -1,6 +1,6 @@
 -- The desk program's text (01, "Exchanging a property", the whole example).
 use Rattle.std.specs.Prelude.{Bool, true, false, cond, ◌&&◌, ◌||◌, List, [], ◌∷◌, ◌++◌, ℕ, zero, suc, ◌+◌, ◌-◌, ◌*◌, ◌/◌, ◌%◌, length, ltb, leb, eqb, ℤ, pos, negsuc}
-use Rattle.reading.specs.Reading.{refusal}
+use Rattle.reading.specs.Reading.{refusal, number_of}
 use Rattle.format.specs.declared.Row.{Row}
 use Rattle.format.specs.Message.{Answer, ok, refused, unless, is_empty, read_frame}
 
@@ -63,7 +63,7 @@ rows_text (r ∷ rs) = row_text r ++ rows_text rs
 -- 01: "An accepted frame prints `ok`, the conversation number and the count of rows, then the rows .. A refusal prints `no NUMBER PLACE`."
 abbrev pub printed : Answer (ℤ × ℕ × List Row) → List ℕ
 printed (ok a) = 0x6F ∷ 0x6B ∷ (numbers (a.0 ∷ pos (length a.2) ∷ []) ++ rows_text a.2)
-printed (refused r) = 0x6E ∷ 0x6F ∷ numbers (pos r.number ∷ pos r.place ∷ [])
+printed (refused r) = 0x6E ∷ 0x6F ∷ numbers (pos (number_of r.reason) ∷ pos r.place ∷ [])
 
 -- the text for a line. 01: "At most 256 rows, else 12."
 unfoldable pub line_text : List ℕ → List ℕ

@@ -9,3 +9,4 @@ pub mod Writing
 pub mod Asking
 pub mod Exchange
 pub mod Desk
+pub mod Numbers

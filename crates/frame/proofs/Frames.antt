@@ -9,32 +9,26 @@ use lib.Dec.{leb}
 use lib.IntN.{ℤ, pos}
 use lib.Signed.{mag, non_neg}
 use borrow.Author.Tests.{le-leb, lt-leb}
+use Rattle.std.specs.Prelude.{Result, Ok, Err}
 use Rattle.reading.specs.declared.Refusal.{Refusal}
 use Rattle.reading.specs.Reading.{State, Out, got, stop, refusal, Reader, stand, follow, ◌>>=◌, ◌>>◌, return, require, here, ahead}
 use Rattle.integer.specs.Packed.{wide32, integer}
-use Rattle.integer.specs.declared.Read32.{Read32}
-use Rattle.integer.specs.declared.Read32.TheVariants.{Int32, Refused32}
 use Rattle.integer.specs.declared.Signed.{Signed}
-use Rattle.integer.specs.declared.Signed.TheVariants.{Positive, Negative, Faulty}
-use Rattle.integer.specs.Answers.{out32, Past32, Reads32, out_signed, PastSigned, ReadsSigned}
+use Rattle.integer.specs.declared.Signed.TheVariants.{Positive, Negative}
+use Rattle.integer.specs.Answers.{out, Past, Reads, signed, PastSigned, ReadsSigned}
 use Rattle.format.specs.Types.{Kind}
 use Rattle.format.specs.Values.{Head, Value, front, each, data_of, outermost}
 use Rattle.format.specs.Rows.{count}
 use Rattle.format.specs.Message.{Answer, ok, refused, then, answer, ends, Frame, is_user, whole_message, whole_frame, frame}
 use Rattle.format.proofs.Counts.{value-rows, reading-long, reading-short}
 use Rattle.laws.proofs.Steps.{steps, required, past-here, same-result}
-use Rattle.measure.specs.declared.Step.{Step}
-use Rattle.measure.specs.declared.Step.TheVariants.{On, Stop}
 use Rattle.measure.specs.Tally.{value_rows}
 use Rattle.measure.specs.Cycle.{step_out}
 use Rattle.measure.specs.Entries.{none, FirstAt}
 use Rattle.measure.proofs.Entries.{ends-left, ends-all, counted-out, refused-out}
 use Rattle.frame.specs.declared.FramePlace.{FramePlace}
-use Rattle.frame.specs.declared.Opened.{Opened}
-use Rattle.frame.specs.declared.Opened.TheVariants.{Message, Unframed}
-use Rattle.frame.specs.declared.Framed.{Framed}
-use Rattle.frame.specs.declared.Framed.TheVariants.{Rows, Refused}
 use Rattle.frame.specs.Frames.{message_in, opened_out, PastOpened, OpenedBy, conversation_out, Conversation, UserAt, answer_of, needed, MessageIn, needs}
+use Rattle.frame.specs.declared.Frame.{Frame as Framed}
 
 -- ---- up to the message
 
@@ -57,27 +51,31 @@ frame-by : (s : State) (x : Out ℤ) → x ≡ integer wide32 s → follow x (af
 unfolding whole_frame after_length message_in ◌>>=◌ here
 frame-by s x e = ap (λ (x : Out ℤ). follow x (after_length s.at)) e
 
-module _ (o : List ℕ) where
-  pub conversation-refused : {at : ℕ} {x : Read32} {r : Refusal} → Reads32 o at x → x ≡ Refused32 r → Conversation o at (Unframed r)
-  conversation-refused h e = record { same = ap (out32 o none) (sym e) ∙ h.same none; past = tt }
+-- what was read, by the case of it
+pub signed-as : {x : Result (ℕ × Signed) Refusal} {next : ℕ} {z w : Signed} → x ≡ Ok (next, z) → z ≡ w → x ≡ Ok (next, w)
+signed-as {next = next} q e = q ∙ ap (λ (z : Signed). Ok (next, z)) e
 
-  pub conversation-read : {at next : ℕ} {x : Read32} {c z : ℤ} → Reads32 o at x → x ≡ Int32 next c → z ≡ c → Conversation o at (Message (record { 0 = next }) z)
+module _ (o : List ℕ) where
+  pub conversation-refused : {at : ℕ} {x : Result (ℕ × ℤ) Refusal} {r : Refusal} → Reads (λ z. z) wide32 o at x → x ≡ Err r → Conversation o at (Err r)
+  conversation-refused h e = record { same = ap (out (λ (z : ℤ). z) o none) (sym e) ∙ h.same none; past = tt }
+
+  pub conversation-read : {at next : ℕ} {x : Result (ℕ × ℤ) Refusal} {c z : ℤ} → Reads (λ z. z) wide32 o at x → x ≡ Ok (next, c) → z ≡ c → Conversation o at (Ok (record { 0 = next }, z))
   conversation-read {at} {next} {x} h e k = record {
-    same = ap (λ (y : ℤ). got y (stand o next none)) k ∙ ap (out32 o none) (sym e) ∙ h.same none;
-    past = let q = subst (Past32 o at) e h.past in q.1;
+    same = ap (λ (y : ℤ). got y (stand o next none)) k ∙ ap (out (λ (z : ℤ). z) o none) (sym e) ∙ h.same none;
+    past = let q = subst (Past o at) e h.past in q.1;
   }
 
-  module _ {x : Signed} (h : ReadsSigned o 0 x) where
-    pub opened-faulty : {r : Refusal} → x ≡ Faulty r → OpenedBy o (Unframed r)
+  module _ {x : Result (ℕ × Signed) Refusal} (h : ReadsSigned o 0 x) where
+    pub opened-faulty : {r : Refusal} → x ≡ Err r → OpenedBy o (Err r)
     unfolding stand
-    opened-faulty e = record { same = frame-by (stand o 0 none) _ (ap (out_signed o none) (sym e) ∙ h.same none); past = tt }
+    opened-faulty e = record { same = frame-by (stand o 0 none) _ (ap (out signed o none) (sym e) ∙ h.same none); past = tt }
 
-    pub opened-negative : {next n : ℕ} → x ≡ Negative next n → OpenedBy o (Unframed (refusal 5 0))
+    pub opened-negative : {next n : ℕ} → x ≡ Ok (next, Negative n) → OpenedBy o (Err (refusal 5 0))
     unfolding after_length ◌>>=◌ require stand
-    opened-negative e = record { same = frame-by (stand o 0 none) _ (ap (out_signed o none) (sym e) ∙ h.same none); past = tt }
+    opened-negative e = record { same = frame-by (stand o 0 none) _ (ap (out signed o none) (sym e) ∙ h.same none); past = tt }
 
-    module _ {next n : ℕ} (e : x ≡ Positive next n) where
-      bounds : PastSigned o 0 (Positive next n)
+    module _ {next n : ℕ} (e : x ≡ Ok (next, Positive n)) where
+      bounds : PastSigned o 0 (Ok (next, Positive n))
       bounds = subst (PastSigned o 0) e h.past
 
       left : length (drop next o) ≡ length o - next
@@ -85,35 +83,35 @@ module _ (o : List ℕ) where
 
       begun : after_length 0 (pos n) (stand o next none) ≡ whole_frame (stand o 0 none)
       unfolding stand
-      begun = frame-by (stand o 0 none) _ (ap (out_signed o none) (sym e) ∙ h.same none)
+      begun = frame-by (stand o 0 none) _ (ap (out signed o none) (sym e) ∙ h.same none)
 
       short : length o - next < n → after_length 0 (pos n) (stand o next none) ≡ stop (refusal 1 (length o))
       unfolding after_length ◌>>=◌ require here ahead stand
       short k = rw (lt-leb n (length (drop next o)) (omega (arith, left, k))) (ap (λ (p : ℕ). stop (refusal 1 p)) (omega (arith, left, bounds.1)))
 
-      pub opened-short : length o - next < n → OpenedBy o (Unframed (refusal 1 (length o)))
+      pub opened-short : length o - next < n → OpenedBy o (Err (refusal 1 (length o)))
       opened-short k = record { same = sym (short k) ∙ begun; past = tt }
 
       over : n < length o - next → after_length 0 (pos n) (stand o next none) ≡ stop (refusal 11 (next + n))
       unfolding after_length ◌>>=◌ require here ahead stand
       over k = rw (le-leb n (length (drop next o)) (omega (arith, left, k)), lt-leb (length (drop next o)) n (omega (arith, left, k)))
 
-      pub opened-over : n < length o - next → OpenedBy o (Unframed (refusal 11 (next + n)))
+      pub opened-over : n < length o - next → OpenedBy o (Err (refusal 11 (next + n)))
       opened-over k = record { same = sym (over k) ∙ begun; past = tt }
 
       fits : n ≤ length o - next → length o - next ≤ n → after_length 0 (pos n) (stand o next none) ≡ follow (integer wide32 (stand o next none)) after_conversation
       unfolding after_length after_conversation ◌>>=◌ require here ahead stand
       fits a b = rw (le-leb n (length (drop next o)) (omega (arith, left, a)), le-leb (length (drop next o)) n (omega (arith, left, b)))
 
-      goes_on : (r : Opened) → conversation_out o r ≡ integer wide32 (stand o next none) → opened_out o r ≡ follow (integer wide32 (stand o next none)) after_conversation
+      goes_on : (r : Result (FramePlace × ℤ) Refusal) → conversation_out o r ≡ integer wide32 (stand o next none) → opened_out o r ≡ follow (integer wide32 (stand o next none)) after_conversation
       unfolding after_conversation ◌>>=◌ here stand
-      goes_on (Message from c) k = ap (λ (x : Out ℤ). follow x after_conversation) k
-      goes_on (Unframed r) k = ap (λ (x : Out ℤ). follow x after_conversation) k
+      goes_on (Ok (from, c)) k = ap (λ (x : Out ℤ). follow x after_conversation) k
+      goes_on (Err r) k = ap (λ (x : Out ℤ). follow x after_conversation) k
 
-      pub opened : {r : Opened} → n ≤ length o - next → length o - next ≤ n → Conversation o next r → OpenedBy o r
+      pub opened : {r : Result (FramePlace × ℤ) Refusal} → n ≤ length o - next → length o - next ≤ n → Conversation o next r → OpenedBy o r
       opened {r} a b c = record { same = goes_on r c.same ∙ sym (fits a b) ∙ begun; past = c.past }
 
-pub next-within : {o : List ℕ} {x : Signed} {next n : ℕ} → ReadsSigned o 0 x → x ≡ Positive next n → next ≤ length o
+pub next-within : {o : List ℕ} {x : Result (ℕ × Signed) Refusal} {next n : ℕ} → ReadsSigned o 0 x → x ≡ Ok (next, Positive n) → next ≤ length o
 next-within {o} h e = (subst (PastSigned o 0) e h.past).1
 
 -- ---- the message
@@ -146,16 +144,16 @@ outermost-type s v s' e =
     (a.state, a.did ∙ ap (λ (t : ℤ). got t a.state) (sym (data-type 15 a.result 1 s.at a.state v s' c.1)))
 
 module _ (o : List ℕ) where
-  pub user-faulty : {at : ℕ} {x : Signed} {r : Refusal} → ReadsSigned o at x → x ≡ Faulty r → UserAt o at false
-  user-faulty h e = record { user = λ z s k. let q = ap (out_signed o none) (sym e) ∙ h.same none ∙ k in let w : ◌≡◌ {A = ℕ} 0 1 = cc in absurd (omega arith) }
+  pub user-faulty : {at : ℕ} {x : Result (ℕ × Signed) Refusal} {r : Refusal} → ReadsSigned o at x → x ≡ Err r → UserAt o at false
+  user-faulty h e = record { user = λ z s k. let q = ap (out signed o none) (sym e) ∙ h.same none ∙ k in cc }
 
-  pub user-negative : {at next n : ℕ} {x : Signed} → ReadsSigned o at x → x ≡ Negative next n → UserAt o at false
-  user-negative h e = record { user = λ z s k. ap non_neg (same-result (ap (out_signed o none) (sym e) ∙ h.same none ∙ k)) }
+  pub user-negative : {at next n : ℕ} {x : Result (ℕ × Signed) Refusal} → ReadsSigned o at x → x ≡ Ok (next, Negative n) → UserAt o at false
+  user-negative h e = record { user = λ z s k. ap non_neg (same-result (ap (out signed o none) (sym e) ∙ h.same none ∙ k)) }
 
-  pub user-positive : {at next n : ℕ} {x : Signed} → ReadsSigned o at x → x ≡ Positive next n → UserAt o at true
-  user-positive h e = record { user = λ z s k. ap non_neg (same-result (ap (out_signed o none) (sym e) ∙ h.same none ∙ k)) }
+  pub user-positive : {at next n : ℕ} {x : Result (ℕ × Signed) Refusal} → ReadsSigned o at x → x ≡ Ok (next, Positive n) → UserAt o at true
+  user-positive h e = record { user = λ z s k. ap non_neg (same-result (ap (out signed o none) (sym e) ∙ h.same none ∙ k)) }
 
-module _ (o : List ℕ) (from : FramePlace) (c : ℤ) {r : Step} (f : FirstAt o from.0 r) where
+module _ (o : List ℕ) (from : FramePlace) (c : ℤ) {r : Result (ℕ × ℕ) Refusal} (f : FirstAt o from.0 r) where
   abbrev framed : Value → Reader Frame
   framed v = require (is_user v) 16 0 >>= λ _. return (record { conversation = c; from = from.0; said = v })
 
@@ -177,11 +175,11 @@ module _ (o : List ℕ) (from : FramePlace) (c : ℤ) {r : Step} (f : FirstAt o 
       by (got v s) = ap (λ (y : Out Frame). then (answer y) needed) (ended v (ends s))
       by (stop r) = refl
 
-  pub message-refused : {q : Refusal} → r ≡ Stop q → MessageIn o from c (Refused q)
+  pub message-refused : {q : Refusal} → r ≡ Err q → MessageIn o from c (Err q)
   unfolding value_rows ◌>>=◌
   message-refused {q} e = record { same = sym (by_value (stop q) (refused-out o f.after (outermost (stand o from.0 none)) (ap (step_out o f.after) (sym e) ∙ f.same))) }
 
-  module _ {next n : ℕ} (e : r ≡ On next n) where
+  module _ {next n : ℕ} (e : r ≡ Ok (next, n)) where
     accepted : (v : Value) × (outermost (stand o from.0 none) ≡ got v (stand o next f.after)) × (n ≡ suc (count v.inside))
     unfolding value_rows ◌>>=◌
     accepted = counted-out o f.after next n (outermost (stand o from.0 none)) (ap (step_out o f.after) (sym e) ∙ f.same)
@@ -190,7 +188,7 @@ module _ (o : List ℕ) (from : FramePlace) (c : ℤ) {r : Step} (f : FirstAt o 
     unfolding ◌>>=◌
     over-value v h = ap (λ (x : Out (Unit {0})). then (answer (follow {B = Frame} x (λ _. framed v))) needed) (ends-left o next f.after h)
 
-    pub message-left : next < length o → MessageIn o from c (Refused (refusal 11 next))
+    pub message-left : next < length o → MessageIn o from c (Err (refusal 11 next))
     message-left h = record { same = sym (by_value _ accepted.1 ∙ over-value accepted.0 h) }
 
     all_read : (v : Value) (u : Bool) → length o ≤ next → u ≡ is_user v → here_on v (stand o next f.after) ≡ (require u 16 0 >>= λ _. return (record { conversation = c; from = from.0; said = v })) (stand o next f.after)
@@ -201,11 +199,11 @@ module _ (o : List ℕ) (from : FramePlace) (c : ℤ) {r : Step} (f : FirstAt o 
       judged : then (answer (message_in from.0 c (stand o from.0 none))) needed ≡ then (answer ((require u 16 0 >>= λ _. return (record { conversation = c; from = from.0; said = accepted.0 })) (stand o next f.after))) needed
       judged = by_value _ accepted.1 ∙ ap (λ (y : Out Frame). then (answer y) needed) (all_read accepted.0 u h (user.user _ _ (outermost-type _ _ _ accepted.1).1))
 
-      pub message-alien : u ≡ false → MessageIn o from c (Refused (refusal 16 0))
+      pub message-alien : u ≡ false → MessageIn o from c (Err (refusal 16 0))
       unfolding ◌>>=◌ require
       message-alien k = record { same = sym (judged ∙ rw k) }
 
-      pub message-rows : {z : ℤ} → z ≡ c → u ≡ true → MessageIn o from c (Rows from n z)
+      pub message-rows : {z : ℤ} → z ≡ c → u ≡ true → MessageIn o from c (Ok (record { message = from; rows = n; conversation = z }))
       unfolding ◌>>=◌ require return
       message-rows {z} q k = record { same = sym (judged ∙ rw (k, q) (ap (λ (m : ℕ). ok (c, from.0, m)) (value-rows accepted.0 ∙ sym accepted.2))) }
 
@@ -220,12 +218,12 @@ module _ (o : List ℕ) where
   unfolding needs frame
   frame-long h = sym (ap (λ (x : Answer Frame). then x needed) (reading-long whole_frame o h))
 
-  module _ {x : Opened} (h : OpenedBy o x) (s : length o ≤ 65535) where
-    pub frame_refused : {r : Refusal} → x ≡ Unframed r → refused r ≡ needs o
+  module _ {x : Result (FramePlace × ℤ) Refusal} (h : OpenedBy o x) (s : length o ≤ 65535) where
+    pub frame_refused : {r : Refusal} → x ≡ Err r → refused r ≡ needs o
     frame_refused e = sym (by-frame s ∙ ap (λ (y : Out Frame). then (answer y) needed) (sym h.same ∙ ap (opened_out o) e))
 
-    pub message-starts : {from : FramePlace} {c : ℤ} → x ≡ Message from c → from.0 ≤ length o
+    pub message-starts : {from : FramePlace} {c : ℤ} → x ≡ Ok (from, c) → from.0 ≤ length o
     message-starts e = subst (PastOpened o) e h.past
 
-    pub frame-read : {from : FramePlace} {c z : ℤ} {r : Framed} → x ≡ Message from c → z ≡ c → MessageIn o from z r → answer_of r ≡ needs o
+    pub frame-read : {from : FramePlace} {c z : ℤ} {r : Result Framed Refusal} → x ≡ Ok (from, c) → z ≡ c → MessageIn o from z r → answer_of r ≡ needs o
     frame-read {from} {r = r} e q w = let m = subst (λ (y : ℤ). MessageIn o from y r) q w in m.same ∙ sym (by-frame s ∙ ap (λ (y : Out Frame). then (answer y) needed) (sym h.same ∙ ap (opened_out o) e))

@@ -2,12 +2,12 @@
 
 ghost use Rattle.std.specs.Prelude.{◌≡◌, ◌+◌, ◌^◌, ◌<◌, ◌≤◌, length};
 ghost use Rattle.format.specs.Message.{in_frame};
-ghost use Rattle.columns.specs.Columns.{columns};
+ghost use Rattle.columns.specs.Lent.{table, SameLoans};
 ghost use Rattle.frame.specs.Frames.{OpenedBy, Conversation, UserAt, MessageIn, answer_of, needs, FrameRead};
 
-use integer::{Read32, Signed};
-use measure::Step;
-use reading::Refusal;
+use columns::ColumnsMut;
+use integer::Signed;
+use reading::{Reason, Refusal};
 
 // A place counted from a frame's first octet, and one counted from its message's first octet: two counts, kept apart.
 #[derive(Clone, Copy)]
@@ -24,152 +24,111 @@ pub fn in_frame(from: FramePlace, p: MessagePlace) -> FramePlace
     FramePlace(from.0 + p.0)
 }
 
-// The place of a frame's message, and the conversation number; or a refusal.
+// What an accepted frame has: the place of its message, the rows of the message, and the conversation number.
 #[derive(Clone, Copy)]
-pub enum Opened {
-    Message(FramePlace, i32),
-    Unframed(Refusal),
+pub struct Frame {
+    pub message: FramePlace,
+    pub rows: usize,
+    pub conversation: i32,
 }
 
-// The place of an accepted frame's message, the rows of the message, and the conversation number; or a refusal, at a frame place.
-#[derive(Clone, Copy)]
-pub enum Framed {
-    Rows(FramePlace, usize, i32),
-    Refused(Refusal),
-}
-
-fn conversation_at(src: &[u8], at: usize) -> Opened
+// The place past a conversation number, where the message starts, and the number.
+fn conversation_at(src: &[u8], at: usize) -> Result<(FramePlace, i32), Refusal>
     ensures { Conversation src.now at result }
 {
-    match integer::int32_at(src, at) {
-        Read32::Refused32(r) => Opened::Unframed(r),
-        Read32::Int32(next, c) => Opened::Message(FramePlace(next), c),
-    }
+    let (next, c) = integer::int_at::<i32>(src, at)?;
+    Ok((FramePlace(next), c))
 }
 
 // A frame up to its message.
-fn open_frame(src: &[u8]) -> Opened
+fn open_frame(src: &[u8]) -> Result<(FramePlace, i32), Refusal>
     ensures { OpenedBy src.now result }
 {
-    match integer::signed_at(src, 0) {
-        Signed::Faulty(r) => Opened::Unframed(r),
-        Signed::Negative(_, _) => Opened::Unframed(Refusal {
-            place: 0,
-            number: 5,
-        }),
-        Signed::Positive(next, n) => {
-            let left = src.len() - next;
-            let n = n as usize;
-            if left < n {
-                return Opened::Unframed(Refusal {
-                    place: src.len(),
-                    number: 1,
-                });
-            }
-            if n < left {
-                return Opened::Unframed(Refusal {
-                    place: next + n,
-                    number: 11,
-                });
-            }
-            conversation_at(src, next)
+    let (next, length) = integer::signed_at(src, 0)?;
+    let n = match length {
+        Signed::Positive(n) => n as usize,
+        Signed::Negative(_) => {
+            return Err(Refusal {
+                place: 0,
+                reason: Reason::BadNumber,
+            });
         }
+    };
+    let left = src.len() - next;
+    if left < n {
+        return Err(Refusal {
+            place: src.len(),
+            reason: Reason::Ended,
+        });
     }
+    if n < left {
+        return Err(Refusal {
+            place: next + n,
+            reason: Reason::LeftOver,
+        });
+    }
+    conversation_at(src, next)
 }
 
 // Whether the identifier at a place is a user type's.
 fn user_at(src: &[u8], at: usize) -> bool
     ensures { UserAt src.now at result }
 {
+    // An arm for each answer: with `matches!` the proof did not close, since its rest names no pattern within `Ok`.
     match integer::signed_at(src, at) {
-        Signed::Faulty(_) => false,
-        Signed::Negative(_, _) => false,
-        Signed::Positive(_, _) => true,
+        Err(_) => false,
+        Ok((_, Signed::Negative(_))) => false,
+        Ok((_, Signed::Positive(_))) => true,
     }
 }
 
 // The frame's message, from its place to the frame's end.
-fn message_in(src: &[u8], from: FramePlace, conversation: i32) -> Framed
+fn message_in(src: &[u8], from: FramePlace, conversation: i32) -> Result<Frame, Refusal>
     requires { (from.0 ≤ length src.now) × (length src.now ≤ 65535) }
     ensures { MessageIn src.now from conversation result }
 {
-    match measure::first_value(src, from.0) {
-        Step::Stop(r) => Framed::Refused(r),
-        Step::On(next, rows) => {
-            if next < src.len() {
-                return Framed::Refused(Refusal {
-                    place: next,
-                    number: 11,
-                });
-            }
-            if user_at(src, from.0) {
-                return Framed::Rows(from, rows, conversation);
-            }
-            Framed::Refused(Refusal {
-                place: 0,
-                number: 16,
-            })
-        }
+    let (next, rows) = measure::first_value(src, from.0)?;
+    if next < src.len() {
+        return Err(Refusal {
+            place: next,
+            reason: Reason::LeftOver,
+        });
     }
+    if !user_at(src, from.0) {
+        return Err(Refusal {
+            place: 0,
+            reason: Reason::Missing,
+        });
+    }
+    Ok(Frame {
+        message: from,
+        rows,
+        conversation,
+    })
 }
 
 // Checking a frame: its conversation number, the place of its message and the rows that this needs.
-pub fn check_frame(src: &[u8]) -> Framed
+pub fn check_frame(src: &[u8]) -> Result<Frame, Refusal>
     ensures { answer_of result ≡ needs src.now }
 {
     if src.len() > 65535 {
-        return Framed::Refused(Refusal {
+        return Err(Refusal {
             place: 0,
-            number: 2,
+            reason: Reason::TooLong,
         });
     }
-    match open_frame(src) {
-        Opened::Unframed(r) => Framed::Refused(r),
-        Opened::Message(from, c) => message_in(src, from, c),
-    }
+    let (from, conversation) = open_frame(src)?;
+    message_in(src, from, conversation)
 }
 
-// Reading a frame into ten lent columns: the place of its message, how many rows that has, which stand first in each column, and the conversation number;
-// or a refusal, at a frame place, and the columns are as they were. The rows' places are message places.
-pub fn read_frame(
-    src: &[u8],
-    ty: &mut [i32],
-    own: &mut [u8],
-    label: &mut [u32],
-    number: &mut [i64],
-    first: &mut [i32],
-    second: &mut [i32],
-    place: &mut [u32],
-    below: &mut [u32],
-    start: &mut [u32],
-    end: &mut [u32],
-) -> Framed
-    ensures { FrameRead src.now (columns ty.old own.old label.old number.old first.old second.old place.old below.old start.old end.old) result (columns ty.new own.new label.new number.new first.new second.new place.new below.new start.new end.new) }
+// Reading a frame into ten lent columns: the rows stand first in each column; or a refusal, at a frame place, and the columns are as they were. The rows'
+// places are message places.
+pub fn read_frame(src: &[u8], columns: &mut ColumnsMut<'_>) -> Result<Frame, Refusal>
+    ensures lent { SameLoans columns.old columns.new }
+    ensures read { FrameRead src.now (table columns.old) result (table columns.new) }
 {
-    match check_frame(src) {
-        Framed::Refused(r) => Framed::Refused(r),
-        Framed::Rows(from, n, c) => {
-            let at = from.0;
-            if message::store_rows(
-                &src[at..],
-                ty,
-                own,
-                label,
-                number,
-                first,
-                second,
-                place,
-                below,
-                start,
-                end,
-                n,
-            ) {
-                return Framed::Rows(from, n, c);
-            }
-            Framed::Refused(Refusal {
-                place: 0,
-                number: 12,
-            })
-        }
-    }
+    let frame = check_frame(src)?;
+    let at = frame.message.0;
+    message::store_rows(&src[at..], columns, frame.rows)?;
+    Ok(frame)
 }

@@ -23,13 +23,8 @@ pub fn keep(src: &mut [u8], from: usize, end: usize) -> usize
     requires { (from ≤ end) × (end ≤ length src.old) }
     ensures { Moved src.old from end result src.new }
 {
-    let n = end - from;
-    let mut i = 0;
-    while i < n {
-        src[i] = src[from + i];
-        i += 1;
-    }
-    n
+    src.copy_within(from..end, 0);
+    end - from
 }
 
 // A line too long for the room is held as one octet, which begins no line that is taken: it is refused where it ends.

@@ -15,12 +15,10 @@ use Rattle.reading.specs.Reading.{Env, State, Out, got, stop, Reader, refusal, s
 use Rattle.reading.proofs.Places.{octet-at, octet-end}
 use Rattle.integer.specs.Packed.{Width, wide64, further, sign, positive, integer}
 use Rattle.integer.proofs.Windows.{marks, low-octet, ends-one, ends-few, ends-first, ends_held}
-use Rattle.integer.specs.declared.Read64.{Read64}
-use Rattle.integer.specs.declared.Read64.TheVariants.{Int64}
-use Rattle.integer.specs.declared.Magnitude.{Magnitude}
-use Rattle.integer.specs.declared.Magnitude.TheVariants.{Mag, Ill}
+use Rattle.std.specs.Prelude.{Result, Ok, Err}
+use Rattle.integer.specs.declared.Signed.{Signed}
 use Rattle.integer.specs.Windows.{little, ends, lead, sevens, sevens_at, Ending}
-use Rattle.integer.specs.Answers.{tail, mag_out, PastMag, Tail, joined_of, Reads64, Knows64}
+use Rattle.integer.specs.Answers.{tail, mag_out, PastMag, Tail, joined_of, Reads, Knows64}
 
 -- ---- the octets after the first, where m is what those before them hold and c the worth of the next
 
@@ -81,17 +79,17 @@ tail-got w b p s m s' h = rw h (by (ltb (b % 64 + 64 * m) w.bound))
 
 module _ (more bound : ℕ) (o : List ℕ) (at b : ℕ) where
   -- where the octets after the first refuse
-  pub tail-ill : (r : Refusal) → ((e : Env) → further more at (stand o (at + 1) e) ≡ stop r) → Tail more bound o at b (Ill r)
+  pub tail-ill : (r : Refusal) → ((e : Env) → further more at (stand o (at + 1) e) ≡ stop r) → Tail more bound o at b (Err r)
   tail-ill r h = record { same = λ e. sym (tail-stop _ b at _ r (h e)); past = tt }
 
   -- where they hold m and end before `next`
-  pub tail-joined : (m last next : ℕ) (r : Magnitude) → ((e : Env) → further more at (stand o (at + 1) e) ≡ lastly at last (got m (stand o next e)))
+  pub tail-joined : (m last next : ℕ) (r : Result (ℕ × ℕ) Refusal) → ((e : Env) → further more at (stand o (at + 1) e) ≡ lastly at last (got m (stand o next e)))
       → at < next → next ≤ length o → r ≡ joined_of at b m last next bound → Tail more bound o at b r
   tail-joined m last next r h g k q = rw q (by (eqb last 0) h (ltb (b % 64 + 64 * m) bound) refl)
     where
       by : (z : Bool) → ((e : Env) → further more at (stand o (at + 1) e) ≡ cond z (stop (refusal 3 at)) (got m (stand o next e)))
           → (t : Bool) → ltb (b % 64 + 64 * m) bound ≡ t
-          → Tail more bound o at b (cond z (Ill (refusal 3 at)) (cond t (Mag next (b % 64 + 64 * m)) (Ill (refusal 3 at))))
+          → Tail more bound o at b (cond z (Err (refusal 3 at)) (cond t (Ok (next, b % 64 + 64 * m)) (Err (refusal 3 at))))
       by true f t e = tail-ill (refusal 3 at) f
       by false f true e = record { same = λ x. sym (tail-got _ b at _ m _ (f x) ∙ rw e); past = (g, k, ltb-true _ bound e) }
       by false f false e = record { same = λ x. sym (tail-got _ b at _ m _ (f x) ∙ rw e); past = tt }
@@ -145,7 +143,7 @@ module _ {o : List ℕ} {at more bits scale next left : ℕ} (turn : Turn o at m
       → further more at (stand o (at + 1) e) ≡ lastly at (get_or o next 0) (got (bits + scale * get_or o next 0) (stand o (next + 1) e))
   turn_last g k e = turn.same e ∙ ap (λ (j : ℕ). scaled bits scale j at (stand o next e)) again ∙ scaled-last o next e bits scale (left - 1) at g k
 
-  pub turn-joined : {b bound : ℕ} {r : Magnitude} → next < length o → get_or o next 0 < 128
+  pub turn-joined : {b bound : ℕ} {r : Result (ℕ × ℕ) Refusal} → next < length o → get_or o next 0 < 128
       → r ≡ joined_of at b (bits + scale * get_or o next 0) (get_or o next 0) (next + 1) bound → Tail more bound o at b r
   turn-joined {b} {bound} {r} g k q = tail-joined more bound o at b (bits + scale * get_or o next 0) (get_or o next 0) (next + 1) r (turn_last g k) (omega arith) (omega arith) q
 
@@ -205,13 +203,13 @@ sevens-below o (suc k) n h =
     rw (pow-succ' 128 k, mul_assoc 128 (128 ^ k) (get_or o (n + suc k) 0 + 1)) (omega (arith, below))
 
 -- n of an integer whose last octet is k octets after the second
-pub tail-ends : {o : List ℕ} {at more b bound k bits : ℕ} {r : Magnitude} → k < more → at + 1 + k < length o → Ending o (at + 1) k → bits ≡ sevens_at (suc k) o (at + 1)
+pub tail-ends : {o : List ℕ} {at more b bound k bits : ℕ} {r : Result (ℕ × ℕ) Refusal} → k < more → at + 1 + k < length o → Ending o (at + 1) k → bits ≡ sevens_at (suc k) o (at + 1)
     → r ≡ joined_of at b bits (get_or o (at + 1 + k) 0) (at + 1 + k + 1) bound → Tail more bound o at b r
 tail-ends {o} {at} {more} {b} {bound} {k} {bits} {r} h g end held q =
     tail-joined more bound o at b bits (get_or o (at + 1 + k) 0) (at + 1 + k + 1) r (λ x. rw held (further-ends o k more at (at + 1) h g end x)) (omega arith) (omega arith) q
 
 -- the same by eight octets at once
-pub tail-word : (o : List ℕ) (at : ℕ) {w e k more b bound bits : ℕ} {r : Magnitude} → ((i : ℕ) → get_or o i 0 < 256) → at + 9 ≤ length o
+pub tail-word : (o : List ℕ) (at : ℕ) {w e k more b bound bits : ℕ} {r : Result (ℕ × ℕ) Refusal} → ((i : ℕ) → get_or o i 0 < 256) → at + 9 ≤ length o
     → w ≡ little 8 o (at + 1) → e ≡ ends 8 w → (e ≡ 0 → ⊥) → k ≡ count_trailing_zeros 64 e / 8 → k < more → bits ≡ sevens (suc (lead 8 w)) w
     → r ≡ joined_of at b bits (get_or o (at + 1 + k) 0) (at + 1 + k + 1) bound → Tail more bound o at b r
 tail-word o at small room word is ne first h held q =
@@ -242,39 +240,43 @@ module _ (w : Width) (o : List ℕ) (at : ℕ) (e : Env) where
       by b (stop r) = refl
 
 -- as a tail was found
-module _ {w : Width} {o : List ℕ} {at : ℕ} {r : Magnitude} (t : Tail w.more w.bound o at (get_or o at 0) r) (h : at < length o) (k : 128 ≤ get_or o at 0) where
+module _ {w : Width} {o : List ℕ} {at : ℕ} {r : Result (ℕ × ℕ) Refusal} (t : Tail w.more w.bound o at (get_or o at 0) r) (h : at < length o) (k : 128 ≤ get_or o at 0) where
   found : (e : Env) → integer w (stand o at e) ≡ follow (mag_out o e r) (λ n. return (sign (positive (get_or o at 0)) n))
   unfolding ◌>>=◌
   found e = integer-more w o at e h k ∙ ap (λ (x : Out ℕ). follow x (λ n. return (sign (positive (get_or o at 0)) n))) (sym (t.same e))
 
-  pub found-mag : {next n : ℕ} → r ≡ Mag next n → (e : Env) → integer w (stand o at e) ≡ got (sign (positive (get_or o at 0)) n) (stand o next e)
+  pub found-mag : {next n : ℕ} → r ≡ Ok (next, n) → (e : Env) → integer w (stand o at e) ≡ got (sign (positive (get_or o at 0)) n) (stand o next e)
   unfolding return
   found-mag q e = found e ∙ rw q
 
-  pub found-ill : {x : Refusal} → r ≡ Ill x → (e : Env) → integer w (stand o at e) ≡ stop x
+  pub found-ill : {x : Refusal} → r ≡ Err x → (e : Env) → integer w (stand o at e) ≡ stop x
   found-ill q e = found e ∙ rw q
 
-  pub found-past : {next n : ℕ} → r ≡ Mag next n → (at < next) × (next ≤ length o) × (n < w.bound)
+  pub found-past : {next n : ℕ} → r ≡ Ok (next, n) → (at < next) × (next ≤ length o) × (n < w.bound)
   found-past q = subst (PastMag o at w.bound) q t.past
 
 -- an integer that was read, said another way
 pub told : {y z : ℤ} {s : State} {x : Out ℤ} → z ≡ y → x ≡ got y s → got z s ≡ x
 told {s} e h = ap (λ (z : ℤ). got z s) e ∙ sym h
 
+-- what was read, by its sign
+pub with_number : {x : Result (ℕ × Signed) Refusal} {next : ℕ} {y z : Signed} → x ≡ Ok (next, y) → y ≡ z → x ≡ Ok (next, z)
+with_number {next} q e = q ∙ ap (λ (y : Signed). Ok (next, y)) e
+
 -- ---- an integer that is known to be there
 
-pub knows : {o : List ℕ} {at : ℕ} {r : Read64} → Reads64 o at r → Knows64 o at r
+pub knows : {o : List ℕ} {at : ℕ} {r : Result (ℕ × ℤ) Refusal} → Reads (λ z. z) wide64 o at r → Knows64 o at r
 knows reads = record { same = λ e z s h. reads.same e ∙ h; past = reads.past }
 
 no_stop : {r : Refusal} {z : ℤ} {s : State} → ◌≡◌ {A = Out ℤ} (stop r) (got z s) → ⊥
 no_stop h = let z : ◌≡◌ {A = ℕ} 0 1 = cc in omega arith
 
 module _ {o : List ℕ} {at : ℕ} {y : ℤ} (h : at + 8 ≤ length o) where
-  known-one : get_or o at 0 < 128 → y ≡ sign (positive (get_or o at 0)) (get_or o at 0 % 64) → Knows64 o at (Int64 (at + 1) y)
+  known-one : get_or o at 0 < 128 → y ≡ sign (positive (get_or o at 0)) (get_or o at 0 % 64) → Knows64 o at (Ok (at + 1, y))
   known-one g q = knows (record { same = λ e. told q (integer-one wide64 o at e (lit≤ tt) (omega arith) g); past = (omega arith, omega arith) })
 
   known_more : (k n : ℕ) → k < 7 → 128 ≤ get_or o at 0 → Ending o (at + 1) k → n ≡ get_or o at 0 % 64 + 64 * sevens_at (suc k) o (at + 1) → y ≡ sign (positive (get_or o at 0)) n
-      → Knows64 o at (Int64 (at + 1 + k + 1) y)
+      → Knows64 o at (Ok (at + 1 + k + 1, y))
   unfolding return
   known_more k n few g end held q =
       let t = tail-ends {more = 9} {b = get_or o at 0} {bound = 2 ^ 63} (omega arith) (omega arith) end refl refl in
@@ -284,13 +286,13 @@ module _ {o : List ℕ} {at : ℕ} {y : ℤ} (h : at + 8 ≤ length o) where
       }
     where
       by : (e : Env) (v : ℤ) (s : State) (a b : Bool)
-          → follow (mag_out o e (cond a (Ill (refusal 3 at)) (cond b (Mag (at + 1 + k + 1) (get_or o at 0 % 64 + 64 * sevens_at (suc k) o (at + 1))) (Ill (refusal 3 at))))) (λ n. return (sign (positive (get_or o at 0)) n)) ≡ got v s
+          → follow (mag_out o e (cond a (Err (refusal 3 at)) (cond b (Ok (at + 1 + k + 1, get_or o at 0 % 64 + 64 * sevens_at (suc k) o (at + 1))) (Err (refusal 3 at))))) (λ n. return (sign (positive (get_or o at 0)) n)) ≡ got v s
           → got y (stand o (at + 1 + k + 1) e) ≡ got v s
       by e v s true b f = absurd (no_stop f)
       by e v s false true f = ap (λ (x : ℤ). got x (stand o (at + 1 + k + 1) e)) (q ∙ ap (sign (positive (get_or o at 0))) held) ∙ f
       by e v s false false f = absurd (no_stop f)
 
-  known-ends : (k : ℕ) {bits : ℕ} → k < 8 → Ending o at k → bits ≡ sevens_at (suc k) o at → y ≡ sign (positive (get_or o at 0)) (bits % 64 + bits / 128 * 64) → Knows64 o at (Int64 (at + k + 1) y)
+  known-ends : (k : ℕ) {bits : ℕ} → k < 8 → Ending o at k → bits ≡ sevens_at (suc k) o at → y ≡ sign (positive (get_or o at 0)) (bits % 64 + bits / 128 * 64) → Knows64 o at (Ok (at + k + 1, y))
   unfolding sevens_at
   known-ends zero {bits} few end held q =
       let here : at + 0 ≡ at = omega arith in
@@ -308,10 +310,10 @@ module _ (o : List ℕ) (at : ℕ) {w e : ℕ} (small : (i : ℕ) → get_or o i
   first-sign : {y : ℤ} (n m : ℕ) → n ≡ m → y ≡ sign (ltb (w % 128) 64) n → y ≡ sign (positive (get_or o at 0)) m
   first-sign n m e q = let seven : w % 128 ≡ get_or o at 0 % 128 = omega (arith, low) in q ∙ rw (seven, e)
 
-  pub known-word-one : {y : ℤ} → e ≡ marks 8 → y ≡ sign (ltb (w % 128) 64) (w % 64) → Knows64 o at (Int64 (at + 1) y)
+  pub known-word-one : {y : ℤ} → e ≡ marks 8 → y ≡ sign (ltb (w % 128) 64) (w % 64) → Knows64 o at (Ok (at + 1, y))
   known-word-one all q = known-one room (ends-one o at small word is all) (first-sign (w % 64) (get_or o at 0 % 64) (omega (arith, low)) q)
 
   pub known-word : {k bits : ℕ} {y : ℤ} → (e ≡ 0 → ⊥) → k ≡ count_trailing_zeros 64 e / 8 → bits ≡ sevens (suc (lead 8 w)) w
-      → y ≡ sign (ltb (w % 128) 64) (bits % 64 + bits / 128 * 64) → Knows64 o at (Int64 (at + k + 1) y)
+      → y ≡ sign (ltb (w % 128) 64) (bits % 64 + bits / 128 * 64) → Knows64 o at (Ok (at + k + 1, y))
   known-word {k} ne first held q =
       known-ends room k (ends-few o at small word is ne first) (ends-first o at small word is ne first) (ends_held o at small word is ne first held) (first-sign _ _ refl q)

@@ -28,24 +28,24 @@ little-join (suc n) m o at =
     let there : at + 1 + n ≡ at + suc n = omega arith in
     rw (little-join n m o (at + 1), there, pow-suc 256 n, mul_comm (256 ^ n) 256, mul_assoc 256 (256 ^ n) (little m o (at + suc n))) (omega arith)
 
-pub little-four : (o : List ℕ) (at : ℕ) {a b c d : ℕ} → a ≡ get_or o at 0 → b ≡ get_or o (at + 1) 0 → c ≡ get_or o (at + 2) 0 → d ≡ get_or o (at + 3) 0
-    → a + 256 * b + 65536 * c + 16777216 * d ≡ little 4 o at
+little-four : (o : List ℕ) (at : ℕ) → get_or o at 0 + 256 * get_or o (at + 1) 0 + 65536 * get_or o (at + 2) 0 + 16777216 * get_or o (at + 3) 0 ≡ little 4 o at
 unfolding little
-little-four o at ea eb ec ed =
+little-four o at =
     let two : at + 1 + 1 ≡ at + 2 = omega arith in
     let three : at + 2 + 1 ≡ at + 3 = omega arith in
-    rw (ea, eb, ec, ed, two, three) (omega arith)
+    rw (two, three) (omega arith)
 
--- by the first four, and the others one by one
-pub little-eight : (o : List ℕ) (at : ℕ) {x a b c d : ℕ} → x ≡ little 4 o at → a ≡ get_or o (at + 4) 0 → b ≡ get_or o (at + 5) 0 → c ≡ get_or o (at + 6) 0 → d ≡ get_or o (at + 7) 0
-    → x + 4294967296 * a + 1099511627776 * b + 281474976710656 * c + 72057594037927936 * d ≡ little 8 o at
-little-eight o at {x} {a} {b} {c} {d} e ea eb ec ed =
+-- octet by octet, as from_le_bytes adds them
+pub little-eight : (o : List ℕ) (at : ℕ)
+    → get_or o at 0 + get_or o (at + 1) 0 * 256 ^ 1 + get_or o (at + 2) 0 * 256 ^ 2 + get_or o (at + 3) 0 * 256 ^ 3 + get_or o (at + 4) 0 * 256 ^ 4 + get_or o (at + 5) 0 * 256 ^ 5 + get_or o (at + 6) 0 * 256 ^ 6 + get_or o (at + 7) 0 * 256 ^ 7 ≡ little 8 o at
+little-eight o at =
     let five : at + 4 + 1 ≡ at + 5 = omega arith in
     let six : at + 4 + 2 ≡ at + 6 = omega arith in
     let seven : at + 4 + 3 ≡ at + 7 = omega arith in
-    let f : a + 256 * b + 65536 * c + 16777216 * d ≡ little 4 o (at + 4) = little-four o (at + 4) ea (rw five eb) (rw six ec) (rw seven ed) in
-    let whole : x + 4294967296 * (a + 256 * b + 65536 * c + 16777216 * d) ≡ little 8 o at = rw (e, f) (sym (little-join 4 4 o at)) in
-    omega (arith, whole)
+    let f = little-four o at in
+    let g = rw (five, six, seven) at (little-four o (at + 4)) in
+    let whole : little 4 o at + 4294967296 * little 4 o (at + 4) ≡ little 8 o at = sym (little-join 4 4 o at) in
+    omega (arith, f, g, whole)
 
 -- ---- the ends
 

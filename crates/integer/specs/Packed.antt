@@ -1,5 +1,5 @@
 -- Packed integers (01, "Packed integers"; 002, E.2.1), over the width.
-use Rattle.std.specs.Prelude.{Bool, true, false, not, List, [], ◌∷◌, ℕ, zero, suc, ◌+◌, ◌*◌, ◌/◌, ◌%◌, ◌^◌, ltb, eqb, ℤ, pos, negsuc}
+use Rattle.std.specs.Prelude.{◌≡◌, Bool, true, false, not, List, [], ◌∷◌, ℕ, zero, suc, ◌+◌, ◌*◌, ◌/◌, ◌%◌, ◌^◌, ◌≤◌, ltb, eqb, ℤ, pos, negsuc}
 use Rattle.std.specs.Int.Signed.{mag}
 use Rattle.reading.specs.Reading.{Reader, ◌>>=◌, ◌>>◌, return, refuse, require, octet, here, either}
 
@@ -7,6 +7,15 @@ use Rattle.reading.specs.Reading.{Reader, ◌>>=◌, ◌>>◌, return, refuse, r
 pub record Width : Type 0 where
   pub bound : ℕ
   pub more : ℕ
+
+abbrev pub width : ℕ → ℕ → Width
+width n k = record { bound = n; more = k }
+
+-- what the code asks of a width
+pub record Packable (bound more : ℕ) : Type 0 where
+  pub by_64 : bound % 64 ≡ 0
+  pub most : 64 ≤ bound
+  pub few : more ≤ 9
 
 -- 01: "An integer is 32-bit signed wherever no type says otherwise." "Five octets (ten for int64)"
 abbrev pub wide32 : Width

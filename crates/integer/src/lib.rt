@@ -1,47 +1,34 @@
 #![tactic(auto)]
 
-ghost use Rattle.std.specs.Prelude.{◌≡◌, suc, ◌+◌, ◌-◌, ◌*◌, ◌/◌, ◌%◌, ◌^◌, ◌≤◌, ◌<◌, length};
+ghost use Rattle.std.specs.Prelude.{◌≡◌, ℕ, ℤ, suc, ◌+◌, ◌-◌, ◌*◌, ◌/◌, ◌%◌, ◌^◌, ◌≤◌, ◌<◌, length};
 ghost use Rattle.std.specs.Int.Signed.{mag};
 ghost use Rattle.std.specs.Int.Count.{count_trailing_zeros};
-ghost use Rattle.integer.specs.Packed.{sign, groups, spell_with, sign_bit, spell_int};
+ghost use Rattle.integer.specs.Packed.{sign, width, Packable, groups, spell_with, sign_bit, spell_int};
 ghost use Rattle.integer.specs.Writes.{Room, Wrote};
 ghost use Rattle.integer.specs.Windows.{little, ends, lead, folded, sevens};
-ghost use Rattle.integer.specs.Answers.{joined_of, Tail, Reads32, ReadsSigned, Reads64, Knows64};
+ghost use Rattle.integer.specs.Answers.{joined_of, Tail, Reads, ReadsSigned, Knows64};
+ghost use Rattle.integer.specs.Widths.{packable16, packable32, packable64};
 
-use reading::Refusal;
+use reading::{Reason, Refusal};
 
 // ---- Eight octets at once ----
 
-// An octet as a number of 64 bits.
-pub fn wide(b: u8) -> u64
-    ensures { (result ≡ b) × (result < 256) }
-{
-    b as u64
-}
-
-// Four octets from a place on as one number, the first lowest.
-fn half_at(src: &[u8], at: usize) -> u64
-    requires { at + 4 ≤ length src.now }
-    ensures { (result ≡ little 4 src.now at) × (result < 2 ^ 32) }
-{
-    let a = wide(src[at]);
-    let b = wide(src[at + 1]);
-    let c = wide(src[at + 2]);
-    let d = wide(src[at + 3]);
-    a + 256 * b + 65536 * c + 16777216 * d
-}
-
-// Eight octets from a place on as one number, the first lowest. Added one by one to the first four, they are one load when compiled.
+// Eight octets from a place on as one number, the first lowest: one load when compiled.
 fn word_at(src: &[u8], at: usize) -> u64
     requires { at + 8 ≤ length src.now }
     ensures { result ≡ little 8 src.now at }
 {
-    let half = half_at(src, at);
-    let e = wide(src[at + 4]);
-    let f = wide(src[at + 5]);
-    let g = wide(src[at + 6]);
-    let h = wide(src[at + 7]);
-    half + 4294967296 * e + 1099511627776 * f + 281474976710656 * g + 72057594037927936 * h
+    // One by one: an array made of a slice comes as a Result, with a refusal that can't be.
+    u64::from_le_bytes([
+        src[at],
+        src[at + 1],
+        src[at + 2],
+        src[at + 3],
+        src[at + 4],
+        src[at + 5],
+        src[at + 6],
+        src[at + 7],
+    ])
 }
 
 // 128 in the place of each of a word's octets that isn't continued, 0 in the places of the others.
@@ -97,88 +84,161 @@ fn held(w: u64, e: u64) -> u64
 
 // ---- Reading ----
 
-// The place past an integer and its n (of n, or of -1 - n); or a refusal.
-#[derive(Clone, Copy)]
-pub enum Magnitude {
-    Mag(usize, u64),
-    Ill(Refusal),
+// Octets and a place are passed as two: a refusal names any place of the same octets, and a reader that fails leaves nothing moved, so a cursor is no plainer.
+
+// An integer as messages pack it: a width has a bound, below which its n is (of n, or of -1 - n), and at most so many octets follow its first.
+pub trait Packed: Copy {
+    ghost number: { Self → ℤ };
+
+    ghost BOUND: { ℕ };
+
+    const BOUND: u64;
+
+    ghost MORE: { ℕ };
+
+    const MORE: usize;
+
+    // n, or -1 - n.
+    fn signed(positive: bool, n: u64) -> Self
+        requires { n < BOUND }
+        ensures { number result ≡ sign positive n };
+
+    ghost packable: { Packable BOUND MORE };
 }
 
-// A 32-bit integer with the place past it, or a refusal.
-#[derive(Clone, Copy)]
-pub enum Read32 {
-    Int32(usize, i32),
-    Refused32(Refusal),
+// An impl for each width: they differ in the type and two numbers, and no macro may write one.
+impl Packed for i16 {
+    ghost number = { λ z. z };
+
+    ghost BOUND = { 2 ^ 15 };
+
+    const BOUND: u64 = 32768;
+
+    ghost MORE = { 4 };
+
+    const MORE: usize = 4;
+
+    ghost packable = { packable16 };
+
+    fn signed(positive: bool, n: u64) -> i16 {
+        let v = n as i16;
+        if positive { v } else { !v }
+    }
 }
 
-// A 32-bit integer by its sign, as n of n or of -1 - n, with the place past it; or a refusal.
+impl Packed for i32 {
+    ghost number = { λ z. z };
+
+    ghost BOUND = { 2 ^ 31 };
+
+    const BOUND: u64 = 2147483648;
+
+    ghost MORE = { 4 };
+
+    const MORE: usize = 4;
+
+    ghost packable = { packable32 };
+
+    fn signed(positive: bool, n: u64) -> i32 {
+        let v = n as i32;
+        if positive { v } else { !v }
+    }
+}
+
+impl Packed for i64 {
+    ghost number = { λ z. z };
+
+    ghost BOUND = { 2 ^ 63 };
+
+    const BOUND: u64 = 9223372036854775808;
+
+    ghost MORE = { 9 };
+
+    const MORE: usize = 9;
+
+    ghost packable = { packable64 };
+
+    fn signed(positive: bool, n: u64) -> i64 {
+        let v = n as i64;
+        if positive { v } else { !v }
+    }
+}
+
+// A 32-bit integer by its sign, as n of n or of -1 - n.
 #[derive(Clone, Copy)]
 pub enum Signed {
-    Positive(usize, u32),
-    Negative(usize, u32),
-    Faulty(Refusal),
+    Positive(u32),
+    Negative(u32),
 }
 
-// A 64-bit integer with the place past it, or a refusal.
-#[derive(Clone, Copy)]
-pub enum Read64 {
-    Int64(usize, i64),
-    Refused64(Refusal),
-}
-
-// The integer at `at`: its first octet, and the bits of the octets after it, of which `last` is the last.
-fn joined(at: usize, first: u8, bits: u64, last: u8, next: usize, bound: u64) -> Magnitude
+// The place past the integer at `at`, and its n: from its first octet, and the bits of the octets after it, of which `last` is the last.
+fn joined(
+    at: usize,
+    first: u8,
+    bits: u64,
+    last: u8,
+    next: usize,
+    bound: u64,
+) -> Result<(usize, u64), Refusal>
     requires { bound % 64 ≡ 0 }
     ensures { result ≡ joined_of at first bits last next bound }
 {
     if last == 0 {
-        return Magnitude::Ill(Refusal {
+        return Err(Refusal {
             place: at,
-            number: 3,
+            reason: Reason::BadInteger,
         });
     }
     if bits < bound / 64 {
-        return Magnitude::Mag(next, ((first % 64) as u64) + 64 * bits);
+        return Ok((next, ((first % 64) as u64) + 64 * bits));
     }
-    Magnitude::Ill(Refusal {
+    Err(Refusal {
         place: at,
-        number: 3,
+        reason: Reason::BadInteger,
     })
 }
 
 // The integer at `at`, whose first octet is continued, octet by octet.
-fn long_at(src: &[u8], at: usize, first: u8, more: usize, bound: u64) -> Magnitude
+fn long_at(
+    src: &[u8],
+    at: usize,
+    first: u8,
+    more: usize,
+    bound: u64,
+) -> Result<(usize, u64), Refusal>
     requires { (at < length src.now) × (more ≤ 9) × (bound % 64 ≡ 0) }
     ensures { Tail more bound src.now at first result }
 {
     let mut bits: u64 = 0;
     let mut scale: u64 = 1;
-    let mut next = at + 1;
-    let mut left = more;
-    while 0 < left {
+    for next in at + 1..at + 1 + more {
         if src.len() <= next {
-            return Magnitude::Ill(Refusal {
+            return Err(Refusal {
                 place: next,
-                number: 1,
+                reason: Reason::Ended,
             });
         }
         let b = src[next];
-        next += 1;
         if b < 128 {
-            return joined(at, first, bits + scale * (b as u64), b, next, bound);
+            return joined(at, first, bits + scale * b as u64, b, next + 1, bound);
         }
-        bits += scale * ((b % 128) as u64);
+        bits += scale * (b % 128) as u64;
         scale *= 128;
-        left -= 1;
     }
-    Magnitude::Ill(Refusal {
+    Err(Refusal {
         place: at,
-        number: 3,
+        reason: Reason::BadInteger,
     })
 }
 
 // The same, at once where eight octets more are there and hold it.
-fn tail_at(src: &[u8], at: usize, first: u8, more: usize, bound: u64) -> Magnitude
+fn tail_at(
+    src: &[u8],
+    at: usize,
+    first: u8,
+    more: usize,
+    bound: u64,
+) -> Result<(usize, u64), Refusal>
     requires { (at < length src.now) × (more ≤ 9) × (bound % 64 ≡ 0) }
     ensures { Tail more bound src.now at first result }
 {
@@ -196,105 +256,56 @@ fn tail_at(src: &[u8], at: usize, first: u8, more: usize, bound: u64) -> Magnitu
     long_at(src, at, first, more, bound)
 }
 
-// n, or -1 - n.
-pub fn signed32(positive: bool, n: u64) -> i32
-    requires { n < 2 ^ 31 }
-    ensures { result ≡ sign positive n }
-{
-    let v = n as i32;
-    if positive {
-        return v;
-    }
-    !v
-}
-
-fn signed64(positive: bool, n: u64) -> i64
-    requires { n < 2 ^ 63 }
-    ensures { result ≡ sign positive n }
-{
-    let v = n as i64;
-    if positive {
-        return v;
-    }
-    !v
-}
-
-// The 32-bit integer at a place.
-pub fn int32_at(src: &[u8], at: usize) -> Read32
-    ensures { Reads32 src.now at result }
+// The integer of a width at a place, and the place past it.
+pub fn int_at<T: Packed>(src: &[u8], at: usize) -> Result<(usize, T), Refusal>
+    ensures { Reads T.number (width T.BOUND T.MORE) src.now at result }
 {
     if src.len() <= at {
-        return Read32::Refused32(Refusal {
+        return Err(Refusal {
             place: at,
-            number: 1,
+            reason: Reason::Ended,
         });
     }
     let b = src[at];
     if b < 128 {
-        return Read32::Int32(at + 1, signed32(b % 128 < 64, (b % 64) as u64));
+        return Ok((at + 1, T::signed(b % 128 < 64, (b % 64) as u64)));
     }
-    match tail_at(&*src, at, b, 4, 2147483648) {
-        Magnitude::Mag(next, n) => Read32::Int32(next, signed32(b % 128 < 64, n)),
-        Magnitude::Ill(r) => Read32::Refused32(r),
-    }
+    let (next, n) = tail_at(&*src, at, b, T::MORE, T::BOUND)?;
+    Ok((next, T::signed(b % 128 < 64, n)))
 }
 
-// The 32-bit integer at a place, by its sign.
-pub fn signed_at(src: &[u8], at: usize) -> Signed
+// The 32-bit integer at a place by its sign, and the place past it.
+pub fn signed_at(src: &[u8], at: usize) -> Result<(usize, Signed), Refusal>
     ensures { ReadsSigned src.now at result }
 {
     if src.len() <= at {
-        return Signed::Faulty(Refusal {
+        return Err(Refusal {
             place: at,
-            number: 1,
+            reason: Reason::Ended,
         });
     }
     let b = src[at];
     if b < 64 {
-        return Signed::Positive(at + 1, b as u32);
+        return Ok((at + 1, Signed::Positive(b as u32)));
     }
     if b < 128 {
-        return Signed::Negative(at + 1, (b - 64) as u32);
+        return Ok((at + 1, Signed::Negative((b - 64) as u32)));
     }
-    match tail_at(&*src, at, b, 4, 2147483648) {
-        Magnitude::Mag(next, n) => {
-            if b < 192 {
-                return Signed::Positive(next, n as u32);
-            }
-            Signed::Negative(next, n as u32)
-        }
-        Magnitude::Ill(r) => Signed::Faulty(r),
+    let (next, n) = tail_at(&*src, at, b, 4, 2147483648)?;
+    if b < 192 {
+        return Ok((next, Signed::Positive(n as u32)));
     }
+    Ok((next, Signed::Negative(n as u32)))
 }
 
-// The 64-bit integer at a place.
-pub fn int64_at(src: &[u8], at: usize) -> Read64
-    ensures { Reads64 src.now at result }
-{
-    if src.len() <= at {
-        return Read64::Refused64(Refusal {
-            place: at,
-            number: 1,
-        });
-    }
-    let b = src[at];
-    if b < 128 {
-        return Read64::Int64(at + 1, signed64(b % 128 < 64, (b % 64) as u64));
-    }
-    match tail_at(src, at, b, 9, 9223372036854775808) {
-        Magnitude::Mag(next, n) => Read64::Int64(next, signed64(b % 128 < 64, n)),
-        Magnitude::Ill(r) => Read64::Refused64(r),
-    }
-}
-
-// The same of octets that hold such an integer there: what was judged before is not judged again.
-pub fn known64_at(src: &[u8], at: usize) -> Read64
+// The 64-bit integer at a place of octets that hold such an integer there, and the place past it: what was judged before is not judged again.
+pub fn known64_at(src: &[u8], at: usize) -> Result<(usize, i64), Refusal>
     ensures { Knows64 src.now at result }
 {
     if src.len() <= at {
-        return Read64::Refused64(Refusal {
+        return Err(Refusal {
             place: at,
-            number: 1,
+            reason: Reason::Ended,
         });
     }
     if 8 <= src.len() - at {
@@ -303,20 +314,22 @@ pub fn known64_at(src: &[u8], at: usize) -> Read64
         let positive = w % 128 < 64;
         // None of the eight octets is continued.
         if e == 0x8080808080808080 {
-            return Read64::Int64(at + 1, signed64(positive, w % 64));
+            return Ok((at + 1, i64::signed(positive, w % 64)));
         }
         if e != 0 {
             let bits = held(w, e);
-            return Read64::Int64(
+            return Ok((
                 at + first_end(e) + 1,
-                signed64(positive, bits % 64 + bits / 128 * 64),
-            );
+                i64::signed(positive, bits % 64 + bits / 128 * 64),
+            ));
         }
     }
-    int64_at(src, at)
+    int_at::<i64>(src, at)
 }
 
 // ---- Writing ----
+
+// A slice and a place are passed as two: `Wrote` says the whole of what the slice holds in one clause, and a struct of both would add that its loan is the same.
 
 // n of an integer, both of n and of -1 - n.
 fn magnitude_of(v: i64) -> u64
@@ -346,6 +359,7 @@ pub fn octets_of(v: i64) -> usize
     if n < 64 {
         return 1;
     }
+    // Seven bits at a time: a loop over the number, which no iterator goes over.
     let mut m = n / 64;
     let mut count: usize = 2;
     while 128 <= m {

@@ -10,7 +10,7 @@ use lib.Dec.{leb}
 use lib.IntN.{ℤ}
 use borrow.Author.Tests.{leb-true, le-leb, lt-leb}
 use Rattle.reading.specs.declared.Refusal.{Refusal}
-use Rattle.reading.specs.Reading.{refusal}
+use Rattle.reading.specs.Reading.{number_of, reason_of, refusal}
 use Rattle.reading.proofs.Sound.{Octets}
 use Rattle.format.specs.declared.Row.{Row}
 use Rattle.format.specs.Values.{Value}
@@ -83,9 +83,9 @@ write-exactly t c room o x = (
   λ h. rw (le-leb (length c) most_octets h.0, h.1, (written-exactly c (rows_in t) o x).1 h.2, le-leb (length o) room h.3),
 )
 
-unless-refused : {A : Type 0} (t : Bool) (n : ℕ) (x : Answer A) (m : ℕ) → unless t n x ≡ refused (refusal m 0) → (m ≡ n → ⊥) → (t ≡ true) × (x ≡ refused (refusal m 0))
+unless-refused : {A : Type 0} (t : Bool) (n : ℕ) (x : Answer A) (m : ℕ) → unless t n x ≡ refused (refusal m 0) → (number_of (reason_of m) ≡ number_of (reason_of n) → ⊥) → (t ≡ true) × (x ≡ refused (refusal m 0))
 unless-refused true n x m e d = (refl, e)
-unless-refused false n x m e d = let same : refusal n 0 ≡ refusal m 0 = cc in absurd (d (sym (ap (λ (r : Refusal). r.number) same)))
+unless-refused false n x m e d = let same : refusal n 0 ≡ refusal m 0 = cc in absurd (d (sym (ap (λ (r : Refusal). number_of r.reason) same)))
 
 then-refused : {A B : Type 0} (x : Answer A) (f : A → Answer B) (q : Refusal) → then x f ≡ refused q → ((a : A) → f a ≡ refused q → ⊥) → x ≡ refused q
 then-refused (ok a) f q e d = absurd (d a e)

@@ -1,4 +1,5 @@
 -- The lines of rows, one after another; and the text for a frame and for a line.
+use Rattle.std.specs.Prelude.{Result, Ok, Err}
 use mathlib.Core.Path.{◌≡◌, refl, sym, ap, subst, ◌∙◌}
 use mathlib.Core.Bool.{true, false}
 use mathlib.Core.List.{List, ◌++◌}
@@ -17,17 +18,17 @@ use Rattle.format.specs.Writing.{Table, row_at, tabled}
 use Rattle.integer.specs.Writes.{Room, Wrote}
 use Rattle.laws.proofs.Theorems.{read-frame-exactly}
 use Rattle.columns.specs.Columns.{Roomy, Filled}
-use Rattle.message.specs.Messages.{shortest, Holds}
+use Rattle.columns.specs.Columns.{shortest}
+use Rattle.message.specs.Messages.{Holds}
 use Rattle.message.proofs.Messages.{same-refused, same_ok}
 use Rattle.frame.specs.declared.FramePlace.{FramePlace}
-use Rattle.frame.specs.declared.Framed.{Framed}
-use Rattle.frame.specs.declared.Framed.TheVariants.{Rows, Refused}
+use Rattle.frame.specs.declared.Frame.{Frame}
 use Rattle.frame.specs.Frames.{answer_of, told, rows_of, FrameRead}
 use Rattle.text.specs.Text.{accepted}
 use Rattle.text.proofs.Digits.{line-most}
 use Rattle.text.proofs.Writes.{wrote-front, wrote-append, wrote_kept}
 use Rattle.text.proofs.Lengths.{row-length, accepted-length, refused-length, accepted-first}
-use Rattle.records.specs.Records.{RowOf}
+use Rattle.columns.specs.Columns.{RowOf}
 use Rattle.records.proofs.Records.{filled-rows, filled-room, last-text}
 use Rattle.listing.specs.Listing.{Fits, RowsListed, Listed}
 
@@ -56,25 +57,25 @@ rowed-all {t} {at} {n} {k} {next} {l} {out} h w = let e : k ≡ n = omega (arith
 
 -- ---- the text for a frame
 
-pub room-28 : {q : Refusal} {at : ℕ} {l : List ℕ} → q.number < 2 ^ 8 → q.place < 2 ^ 64 → at + 32768 ≤ length l → Room (printed (refused q)) at l
-room-28 {q} h g k = record { room = omega (arith, refused-length q h g, k) }
+pub room-28 : (q : Refusal) {at : ℕ} {l : List ℕ} → q.place < 2 ^ 64 → at + 32768 ≤ length l → Room (printed (refused q)) at l
+room-28 q g k = record { room = omega (arith, refused-length q g, k) }
 
 pub room-36 : {c z : ℤ} {n at : ℕ} {l : List ℕ} → z ≡ c → mag c < 2 ^ 31 → n < 2 ^ 64 → at + 32768 ≤ length l → Room (accepted z n) at l
 room-36 {c} {z} {n} e h g k = record { room = omega (arith, accepted-length z n (subst (λ (c : ℤ). mag c < 2 ^ 31) (sym e) h) g, k) }
 
 -- what a reading into columns gives, by the rows that they are lent for
-module _ (o : List ℕ) {t t' : Table} {x : Framed} (h : FrameRead o t x t') {lim : ℕ} (s : shortest t ≡ lim) where
+module _ (o : List ℕ) {t t' : Table} {x : Result Frame Refusal} (h : FrameRead o t x t') {lim : ℕ} (s : shortest t ≡ lim) where
   by-limit : answer_of x ≡ then (read_frame lim o) told
   by-limit = subst (λ (k : ℕ). answer_of x ≡ then (read_frame k o) told) s h.says
 
-  pub frame_refused : {q : Refusal} → x ≡ Refused q → read_frame lim o ≡ refused q
+  pub frame_refused : {q : Refusal} → x ≡ Err q → read_frame lim o ≡ refused q
   frame_refused {q} e = by (read_frame lim o) (ap answer_of (sym e) ∙ by-limit)
     where
       by : (y : Answer (ℤ × ℕ × List Row)) → refused q ≡ then y told → y ≡ refused q
       by (ok a) k = let z : ◌≡◌ {A = ℕ} 0 1 = cc in absurd (omega arith)
       by (refused p) k = ap refused (sym (same-refused k))
 
-  module _ {from : FramePlace} {n : ℕ} {c : ℤ} (e : x ≡ Rows from n c) where
+  module _ {from : FramePlace} {n : ℕ} {c : ℤ} (e : x ≡ Ok (record { message = from; rows = n; conversation = c })) where
     pub frame-given : (a : ℤ × ℕ × List Row) × (read_frame lim o ≡ ok a) × (c ≡ a.0) × (n ≡ length a.2)
     frame-given = by (read_frame lim o) refl (ap answer_of (sym e) ∙ by-limit)
       where
@@ -92,12 +93,12 @@ module _ (o : List ℕ) {t t' : Table} {x : Framed} (h : FrameRead o t x t') {li
     pub frame-room : Roomy n t'
     frame-room = subst (λ (m : ℕ). Roomy m t') (sym frame-given.3) (filled-room filled)
 
-module _ (o : List ℕ) {t t' : Table} {x : Framed} (h : FrameRead o t x t') (s : shortest t ≡ 256) where
-  pub listed-refused : {q : Refusal} {at next : ℕ} {l out : List ℕ} → x ≡ Refused q → q.number < 2 ^ 8 → q.place < 2 ^ 64 → Wrote (printed (refused q)) at l next out → Listed (printed (read_frame 256 o)) at l next out
-  listed-refused {q} {at} {next} {l} {out} e j k w =
-      subst (λ (y : Answer (ℤ × ℕ × List Row)). Listed (printed y) at l next out) (sym (frame_refused o h s e)) (record { wrote = w; short = omega (arith, refused-length q j k) })
+module _ (o : List ℕ) {t t' : Table} {x : Result Frame Refusal} (h : FrameRead o t x t') (s : shortest t ≡ 256) where
+  pub listed-refused : {q : Refusal} {at next : ℕ} {l out : List ℕ} → x ≡ Err q → q.place < 2 ^ 64 → Wrote (printed (refused q)) at l next out → Listed (printed (read_frame 256 o)) at l next out
+  listed-refused {q} {at} {next} {l} {out} e k w =
+      subst (λ (y : Answer (ℤ × ℕ × List Row)). Listed (printed y) at l next out) (sym (frame_refused o h s e)) (record { wrote = w; short = omega (arith, refused-length q k) })
 
-  module _ {from : FramePlace} {n : ℕ} {c : ℤ} (e : x ≡ Rows from n c) (b : Octets o) {z : ℤ} (q : z ≡ c) (g : mag c < 2 ^ 31) {at mid : ℕ} {l some : List ℕ} (w : Wrote (accepted z n) at l mid some) where
+  module _ {from : FramePlace} {n : ℕ} {c : ℤ} (e : x ≡ Ok (record { message = from; rows = n; conversation = c })) (b : Octets o) {z : ℤ} (q : z ≡ c) (g : mag c < 2 ^ 31) {at mid : ℕ} {l some : List ℕ} (w : Wrote (accepted z n) at l mid some) where
     abbrev given : (a : ℤ × ℕ × List Row) × (read_frame 256 o ≡ ok a) × (c ≡ a.0) × (n ≡ length a.2)
     given = frame-given o h s e
 
@@ -129,7 +130,7 @@ line-octets line e w k = let few = line-most line e in (wrote-front w (omega (ar
 module _ (line : List ℕ) {l out : List ℕ} {at next : ℕ} where
   pub listed-other : is_line line ≡ false → Wrote (printed (refused (refusal 17 0))) at l next out → Listed (line_text line) at l next out
   unfolding line_text
-  listed-other e w = rw e (record { wrote = w; short = omega (arith, refused-length (refusal 17 0) (omega arith) (omega arith)) })
+  listed-other e w = rw e (record { wrote = w; short = omega (arith, refused-length (refusal 17 0) (omega arith)) })
 
   pub listed-line : {o : List ℕ} → is_line line ≡ true → o ≡ octets_of line → Listed (printed (read_frame 256 o)) at l next out → Listed (line_text line) at l next out
   unfolding line_text

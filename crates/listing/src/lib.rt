@@ -3,40 +3,21 @@
 ghost use Rattle.std.specs.Prelude.{◌+◌, ◌≤◌, length};
 ghost use Rattle.format.specs.Desk.{printed, line_text};
 ghost use Rattle.format.specs.Message.{read_frame};
-ghost use Rattle.columns.specs.Columns.{columns, Roomy};
+ghost use Rattle.columns.specs.Columns.{Roomy};
+ghost use Rattle.columns.specs.Lent.{table_of};
 ghost use Rattle.listing.specs.Listing.{Fits, RowsListed, Listed, LinesListed};
 
-use frame::Framed;
-use reading::Refusal;
-use text::Line;
+use columns::{Columns, ColumnsMut};
+use reading::{Reason, Refusal};
 
 // Writes the lines of the first n rows of ten columns from a place on.
-fn put_rows(
-    ty: &[i32],
-    own: &[u8],
-    label: &[u32],
-    number: &[i64],
-    first: &[i32],
-    second: &[i32],
-    place: &[u32],
-    below: &[u32],
-    start: &[u32],
-    end: &[u32],
-    n: usize,
-    out: &mut [u8],
-    at: usize,
-) -> usize
-    requires { Roomy n (columns ty.now own.now label.now number.now first.now second.now place.now below.now start.now end.now) × Fits at n out.old }
-    ensures { RowsListed (columns ty.now own.now label.now number.now first.now second.now place.now below.now start.now end.now) at out.old n result out.new }
+fn put_rows(rows: Columns<'_>, n: usize, out: &mut [u8], at: usize) -> usize
+    requires { Roomy n (table_of rows) × Fits at n out.old }
+    ensures { RowsListed (table_of rows.entry) at out.old n result out.new }
 {
     let mut next = at;
-    let mut k = 0;
-    while k < n {
-        let row = records::row_at(
-            ty, own, label, number, first, second, place, below, start, end, k,
-        );
-        next = text::put_row(out, next, row);
-        k += 1;
+    for k in 0..n {
+        next = text::put_row(out, next, rows.row(k));
     }
     next
 }
@@ -46,37 +27,24 @@ fn list_frame(src: &[u8], out: &mut [u8], at: usize) -> usize
     requires { at + 32768 ≤ length out.old }
     ensures { Listed (printed (read_frame 256 src.now)) at out.old result out.new }
 {
-    let mut ty = [0i32; 256];
-    let mut own = [0u8; 256];
-    let mut label = [0u32; 256];
-    let mut number = [0i64; 256];
-    let mut first = [0i32; 256];
-    let mut second = [0i32; 256];
-    let mut place = [0u32; 256];
-    let mut below = [0u32; 256];
-    let mut start = [0u32; 256];
-    let mut end = [0u32; 256];
-    match frame::read_frame(
-        src,
-        &mut ty,
-        &mut own,
-        &mut label,
-        &mut number,
-        &mut first,
-        &mut second,
-        &mut place,
-        &mut below,
-        &mut start,
-        &mut end,
-    ) {
-        Framed::Refused(r) => text::put_refused(out, at, r),
-        Framed::Rows(_, n, conversation) => {
-            let next = text::put_accepted(out, at, conversation, n);
-            put_rows(
-                &ty, &own, &label, &number, &first, &second, &place, &below, &start, &end, n, out,
-                next,
-            )
+    let mut columns = ColumnsMut {
+        ty: &mut [0; 256],
+        own: &mut [0; 256],
+        label: &mut [0; 256],
+        number: &mut [0; 256],
+        first: &mut [0; 256],
+        second: &mut [0; 256],
+        place: &mut [0; 256],
+        below: &mut [0; 256],
+        start: &mut [0; 256],
+        end: &mut [0; 256],
+    };
+    match frame::read_frame(src, &mut columns) {
+        Ok(frame) => {
+            let next = text::put_accepted(out, at, frame.conversation, frame.rows);
+            put_rows(columns.rows(), frame.rows, out, next)
         }
+        Err(r) => text::put_refused(out, at, r),
     }
 }
 
@@ -87,15 +55,15 @@ pub fn list_line(line: &[u8], out: &mut [u8], at: usize) -> usize
 {
     let mut octets = [0u8; 4096];
     match text::line_octets(line, &mut octets) {
-        Line::Not => text::put_refused(
+        Some(n) => list_frame(&octets[..n], out, at),
+        None => text::put_refused(
             out,
             at,
             Refusal {
                 place: 0,
-                number: 17,
+                reason: Reason::BadLine,
             },
         ),
-        Line::Octets(n) => list_frame(&octets[..n], out, at),
     }
 }
 
@@ -110,14 +78,13 @@ pub struct Progress {
 pub fn list_lines(src: &[u8], out: &mut [u8]) -> Progress
     ensures { LinesListed src.now out.old result out.new }
 {
-    let n = src.len();
     let mut used = 0;
     let mut written = 0;
+    // A step is a line, and the room that is left decides whether there is another.
     while 32768 <= out.len() - written {
-        let end = octets::find(src, used, n, b'\n');
-        if end == n {
+        let Some(end) = octets::find(src, used, src.len(), b'\n') else {
             break;
-        }
+        };
         written = list_line(&src[used..end], out, written);
         used = end + 1;
     }

@@ -6,6 +6,7 @@ use Prim.Native.Nat.{ℕ, suc, ◌+◌, ◌≤◌}
 use native.Mathlib.Omega.{arith}
 use lib.ListN.{length}
 use lib.IntN.{ℤ, pos}
+use Rattle.std.specs.Prelude.{Result, Ok, Err}
 use Rattle.reading.specs.declared.Refusal.{Refusal}
 use Rattle.reading.specs.Reading.{State, Out, got, stop, refusal, Reader, stand, follow, ◌>>=◌, return, require}
 use Rattle.integer.specs.Packed.{integer}
@@ -13,17 +14,14 @@ use Rattle.format.specs.Types.{Datum, packed, fixed, code, silent, Sort, Kind, s
 use Rattle.format.specs.Data.{number, run, character, contents}
 use Rattle.format.specs.Values.{Inner, may, data_of}
 use Rattle.scalar.specs.declared.Bits.{Bits}
-use Rattle.scalar.specs.declared.Passed.{Passed}
-use Rattle.scalar.specs.declared.Passed.TheVariants.{Past, Refused}
 use Rattle.scalar.specs.Answers.{skip, passed_out, PastOf, Passes, width_of}
-use Rattle.decide.specs.declared.Amount.{Amount}
-use Rattle.decide.specs.declared.Amount.TheVariants.{Number, NoNumber}
 use Rattle.decide.specs.declared.Class.TheVariants.{Small, Int, Fixed, Char}
 use Rattle.decide.specs.declared.Class.TheVariants.{Refused as Uncarried, Text as Texted}
 use Rattle.decide.specs.Classes.{text_of}
 use Rattle.decide.specs.Elements.{PastAmount, AmountAt}
+use Rattle.measure.specs.declared.identities.Identities.{Identities}
 use Rattle.measure.specs.declared.Plan.{Plan}
-use Rattle.measure.specs.declared.Plan.TheVariants.{Refuse, Single}
+use Rattle.measure.specs.declared.Plan.TheVariants.{Single}
 use Rattle.measure.specs.Identities.{env_of}
 use Rattle.measure.specs.Tally.{single, value_rows}
 use Rattle.measure.specs.Plans.{judged, plan_of, PlanIs, DataPlan}
@@ -65,15 +63,15 @@ one-after {A} p s x e = rw e (by (p s))
     by (got a t) = refl
     by (stop r) = refl
 
-pub passed-plan : (o l : List ℕ) (at least : ℕ) (rows : ℕ → Out ℕ) (r : Passed) → ((lv : ℕ) → rows lv ≡ follow (passed_out o (env_of l) r) (λ _. single)) → PastOf least o at r → PlanIs o l (at + least) rows (plan_of r)
+pub passed-plan : (o : List ℕ) (l : Identities) (at least : ℕ) (rows : ℕ → Out ℕ) (r : Result ℕ Refusal) → ((lv : ℕ) → rows lv ≡ follow (passed_out o (env_of l) r) (λ _. single)) → PastOf least o at r → PlanIs o l (at + least) rows (plan_of r)
 unfolding return
-passed-plan o l at least rows (Past next) h q = (q.0, q.1, omega arith, h)
-passed-plan o l at least rows (Refused r) h q = h
+passed-plan o l at least rows (Ok next) h q = (q.0, q.1, omega arith, h)
+passed-plan o l at least rows (Err r) h q = h
 
 -- ---- the classes
 
 -- a number that was passed
-scalar-plan : (o l : List ℕ) (once : Bool) (at p : ℕ) (d : Datum) (q : Sort) (t : ℤ) (own : ℕ) (least : ℕ) (r : Passed) → kind_of t ≡ scalar d q → Passes least o at (number d) r
+scalar-plan : (o : List ℕ) (l : Identities) (once : Bool) (at p : ℕ) (d : Datum) (q : Sort) (t : ℤ) (own : ℕ) (least : ℕ) (r : Result ℕ Refusal) → kind_of t ≡ scalar d q → Passes least o at (number d) r
     → PlanIs o l (at + least) (λ lv. value_rows (judged (data_of (suc lv)) once t own p) (stand o at (env_of l))) (plan_of r)
 scalar-plan o l once at p d q t own least r e h = passed-plan o l at least _ r (λ lv.
     judged-silent (data_of (suc lv)) once t own p (stand o at (env_of l)) (scalar d q) e refl refl
@@ -81,7 +79,7 @@ scalar-plan o l once at p d q t own least r e h = passed-plan o l at least _ r (
     ∙ one-after (number d) (stand o at (env_of l)) _ (h.same (env_of l))) h.past
 
 -- what passes a reading passes the number made of it
-passes-made : {A B : Type 0} {least : ℕ} {o : List ℕ} {at : ℕ} {r : Passed} (p : Reader A) (f : A → B) → Passes least o at p r → Passes least o at (p >>= λ a. return (f a)) r
+passes-made : {A B : Type 0} {least : ℕ} {o : List ℕ} {at : ℕ} {r : Result ℕ Refusal} (p : Reader A) (f : A → B) → Passes least o at p r → Passes least o at (p >>= λ a. return (f a)) r
 unfolding ◌>>=◌ return
 passes-made {A} {B} {o} {at} p f h = record { same = λ e. h.same e ∙ by (p (stand o at e)); past = h.past }
   where
@@ -89,11 +87,11 @@ passes-made {A} {B} {o} {at} p f h = record { same = λ e. h.same e ∙ by (p (s
     by (got a t) = refl
     by (stop r) = refl
 
-module _ {o l : List ℕ} {once : Bool} {at p : ℕ} where
-  pub uncarried-plan : DataPlan o l Uncarried once at p (Refuse (refusal 4 p))
+module _ {o : List ℕ} {l : Identities} {once : Bool} {at p : ℕ} where
+  pub uncarried-plan : DataPlan o l Uncarried once at p (Err (refusal 4 p))
   uncarried-plan = record { plan = λ t own i lv. judged-uncarried (data_of (suc lv)) once t own p (stand o at (env_of l)) i }
 
-  pub small-plan : at ≤ length o → DataPlan o l Small once at p (Single at 1)
+  pub small-plan : at ≤ length o → DataPlan o l Small once at p (Ok (Single at 1))
   unfolding number ◌>>=◌ return
   small-plan h = record {
     plan = λ t own i. (
@@ -105,20 +103,20 @@ module _ {o l : List ℕ} {once : Bool} {at p : ℕ} where
     );
   }
 
-  pub int-plan : {b : Bits} {r : Passed} {w : Plan} → Passes 1 o at (integer (width_of b)) r → w ≡ plan_of r → DataPlan o l (Int b) once at p w
+  pub int-plan : {b : Bits} {r : Result ℕ Refusal} {w : Result Plan Refusal} → Passes 1 o at (integer (width_of b)) r → w ≡ plan_of r → DataPlan o l (Int b) once at p w
   unfolding number
   int-plan {b} {r} h e = rw e record { plan = λ t own i. scalar-plan o l once at p (packed (width_of b)) i.0 t own 1 r i.1 h }
 
-  pub fixed-plan : {n : ℕ} {r : Passed} {w : Plan} → Passes n o at (run n) r → w ≡ plan_of r → DataPlan o l (Fixed n) once at p w
+  pub fixed-plan : {n : ℕ} {r : Result ℕ Refusal} {w : Result Plan Refusal} → Passes n o at (run n) r → w ≡ plan_of r → DataPlan o l (Fixed n) once at p w
   unfolding number
   fixed-plan {n} {r} h e = rw e record { plan = λ t own i. scalar-plan o l once at p (fixed n) i.0 t own n r i.1 (passes-made (run n) _ h) }
 
-  pub char-plan : {r : Passed} {w : Plan} → Passes 1 o at character r → w ≡ plan_of r → DataPlan o l Char once at p w
+  pub char-plan : {r : Result ℕ Refusal} {w : Result Plan Refusal} → Passes 1 o at character r → w ≡ plan_of r → DataPlan o l Char once at p w
   unfolding number
   char-plan {r} h e = rw e record { plan = λ t own i. scalar-plan o l once at p code i.0 t own 1 r i.1 (passes-made character _ h) }
 
   -- a length, and contents that were passed
-  pub text-none : {x : Refusal} {chars : Bool} {a : Amount} → AmountAt o at a → a ≡ NoNumber x → DataPlan o l (Texted chars) once at p (Refuse x)
+  pub text-none : {x : Refusal} {chars : Bool} {a : Result (ℕ × ℕ) Refusal} → AmountAt o at a → a ≡ Err x → DataPlan o l (Texted chars) once at p (Err x)
   unfolding ◌>>=◌
   text-none {x} {chars} h e = record {
     plan = λ t own i lv. judged-silent (data_of (suc lv)) once t own p (stand o at (env_of l)) _ i refl refl
@@ -127,7 +125,7 @@ module _ {o l : List ℕ} {once : Bool} {at p : ℕ} where
         ∙ rw e;
   }
 
-  pub text-some : {next n : ℕ} {chars : Bool} {a : Amount} {r : Passed} {w : Plan} → AmountAt o at a → a ≡ Number next n → Passes n o next (contents (text_of chars) (pos n)) r → w ≡ plan_of r
+  pub text-some : {next n : ℕ} {chars : Bool} {a : Result (ℕ × ℕ) Refusal} {r : Result ℕ Refusal} {w : Result Plan Refusal} → AmountAt o at a → a ≡ Ok (next, n) → Passes n o next (contents (text_of chars) (pos n)) r → w ≡ plan_of r
       → DataPlan o l (Texted chars) once at p w
   unfolding ◌>>=◌
   text-some {next} {n} {chars} {a} {r} h e g f = rw f record {
@@ -137,6 +135,6 @@ module _ {o l : List ℕ} {once : Bool} {at p : ℕ} where
         ∙ rw e (one-after (contents (text_of chars) (pos n)) (stand o next (env_of l)) _ (g.same (env_of l)))) (later r g.past);
   }
     where
-      later : (r : Passed) → PastOf n o next r → PastOf 1 o at r
-      later (Past z) q = let y = subst (PastAmount o at) e h.past in (omega (arith, q.0, y.0), q.1)
-      later (Refused x) q = tt
+      later : (r : Result ℕ Refusal) → PastOf n o next r → PastOf 1 o at r
+      later (Ok z) q = let y = subst (PastAmount o at) e h.past in (omega (arith, q.0, y.0), q.1)
+      later (Err x) q = tt

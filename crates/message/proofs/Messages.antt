@@ -1,12 +1,13 @@
 -- Reading a message: counted first, then filled in where there is room.
 use mathlib.Core.Path.{◌≡◌, refl, sym, ap, subst, ◌∙◌}
-use mathlib.Core.Bool.{Bool, true, false, cond}
+use mathlib.Core.Bool.{Bool, true, false}
 use mathlib.Core.List.{List}
 use Prim.Native.Nat.{ℕ, ◌^◌, ◌<◌, ◌≤◌}
 use native.Mathlib.Omega.{arith}
 use lib.ListN.{length}
 use lib.Dec.{leb}
-use borrow.Author.Tests.{leb-true, leb-false, le-leb, lt-leb}
+use borrow.Author.Tests.{le-leb, lt-leb}
+use Rattle.std.specs.Prelude.{Result, Ok, Err}
 use Rattle.reading.specs.declared.Refusal.{Refusal}
 use Rattle.reading.specs.Reading.{refusal}
 use Rattle.reading.proofs.Sound.{Octets}
@@ -18,52 +19,11 @@ use Rattle.format.specs.Rows.{rows}
 use Rattle.format.specs.Writing.{Table}
 use Rattle.format.specs.Message.{Answer, ok, refused, then, unless, message, within_rows, read_message}
 use Rattle.laws.proofs.Theorems.{accepted-exactly, rows-count}
-use Rattle.measure.specs.declared.Measured.{Measured}
-use Rattle.measure.specs.declared.Measured.TheVariants.{Amount, Refused}
 use Rattle.measure.specs.Entries.{answer_of, rows_needed}
-use Rattle.columns.specs.Columns.{Roomy}
+use Rattle.columns.specs.Columns.{shortest}
+use Rattle.columns.proofs.Storing.{room_for}
 use Rattle.fill.specs.Filling.{Ready, FilledIn}
-use Rattle.message.specs.Messages.{least, least_of, shortest, Holds, counted, MessageRead, RowsStored}
-
--- ---- the shortest column
-
-pub least_first : (a b : ℕ) → a ≤ b → a ≡ least a b
-least_first a b h = sym (rw (le-leb a b h))
-
-pub least-second : (a b : ℕ) → b < a → b ≡ least a b
-least-second a b h = sym (rw (lt-leb a b h))
-
-pub least_by : {a b c d r : ℕ} → r ≡ least a b → a ≡ c → b ≡ d → r ≡ least c d
-least_by h j k = h ∙ rw (j, k)
-
-least-le : (a b : ℕ) → (least a b ≤ a) × (least a b ≤ b)
-least-le a b = by (leb a b) refl
-  where
-    by : (x : Bool) → leb a b ≡ x → (cond x a b ≤ a) × (cond x a b ≤ b)
-    by true e = (omega arith, leb-true a b e)
-    by false e = (omega (arith, leb-false a b e), omega arith)
-
--- below both
-below : {n : ℕ} (a b : ℕ) → n ≤ least a b → (n ≤ a) × (n ≤ b)
-below a b h = (omega (arith, h, (least-le a b).0), omega (arith, h, (least-le a b).1))
-
-pub room_for : {n : ℕ} (t : Table) → n ≤ shortest t → Roomy n t
-unfolding shortest
-room_for t h =
-    let p = below _ _ h in
-    let q = below _ _ p.0 in
-    let r = below _ _ q.1 in
-    let s = below _ _ p.1 in
-    let u = below _ _ s.0 in
-    let w = below _ _ u.1 in
-    let x = below _ _ s.1 in
-    let y = below _ _ x.0 in
-    let z = below _ _ x.1 in
-    record { ty_room = q.0; own_room = r.0; label_room = r.1; number_room = u.0; first_room = w.0; second_room = w.1; place_room = y.0; below_room = y.1; start_room = z.0; end_room = z.1 }
-
-pub is-shortest : (t : Table) {m : ℕ} → m ≡ least_of (length t.ty) (length t.own) (length t.label) (length t.number) (length t.first) (length t.second) (length t.place) (length t.below) (length t.start) (length t.end) → m ≡ shortest t
-unfolding shortest
-is-shortest t e = e
+use Rattle.message.specs.Messages.{Holds, counted, MessageRead, stored_as, RowsStored}
 
 pub can-fill : {o : List ℕ} {n m : ℕ} {t : Table} → m ≡ shortest t → n ≤ m → length o < 2 ^ 32 → n < 2 ^ 32 → Ready o n 0 0 t
 can-fill {o} {n} {m} {t} e h s k = record { room = room_for t (subst (λ (m : ℕ). n ≤ m) e h); short = s; few = k; inside = omega arith; below = omega arith }
@@ -73,10 +33,10 @@ can-fill {o} {n} {m} {t} e h s k = record { room = room_for t (subst (λ (m : �
 within_by : {n : ℕ} (lent : ℕ) (rs : List Row) (b : Bool) → n ≡ length rs → leb n lent ≡ b → within_rows lent rs ≡ unless b 12 (ok rs)
 within_by lent rs b e k = ap (λ (x : Bool). unless x 12 (ok rs)) (ap (λ (m : ℕ). leb m lent) (sym e) ∙ k)
 
-pub no_room : {o : List ℕ} {n m : ℕ} {t : Table} → m ≡ shortest t → m < n → RowsStored o n t false t
+pub no_room : {o : List ℕ} {n m : ℕ} {t : Table} → m ≡ shortest t → m < n → RowsStored o n t (Err (refusal 12 0)) t
 no_room {o} {n} {m} {t} e h = record { stored = λ v g s k. (within_by (shortest t) (rows v) false k (lt-leb n (shortest t) (subst (λ (m : ℕ). m < n) e h)), refl) }
 
-pub stored : {o : List ℕ} {n m : ℕ} {t t' : Table} → m ≡ shortest t → n ≤ m → FilledIn o n t t' → RowsStored o n t true t'
+pub stored : {o : List ℕ} {n m : ℕ} {t t' : Table} → m ≡ shortest t → n ≤ m → FilledIn o n t t' → RowsStored o n t (Ok tt) t'
 stored {o} {n} {m} {t} e h f = record { stored = λ v g s k. (within_by (shortest t) (rows v) true k (le-leb n (shortest t) (subst (λ (m : ℕ). n ≤ m) e h)), f.same v g s (sym k)) }
 
 -- ---- reading
@@ -88,14 +48,14 @@ pub same_ok : {A : Type 0} {a b : A} → ◌≡◌ {A = Answer A} (ok a) (ok b) 
 same_ok e = cc
 
 -- a message that is accepted
-module _ (o : List ℕ) {x : Measured} {n : ℕ} (h : answer_of x ≡ rows_needed o) (e : x ≡ Amount n) (c : Octets o) where
+module _ (o : List ℕ) {x : Result ℕ Refusal} {n : ℕ} (h : answer_of x ≡ rows_needed o) (e : x ≡ Ok n) (c : Octets o) where
   said : (v : Value) × (message o ≡ ok v) × (n ≡ length (rows v))
   unfolding rows_needed
   said = by (message o) refl (ap answer_of (sym e) ∙ h)
     where
       by : (x : Answer Value) → message o ≡ x → ok n ≡ then x (λ v. ok (length (rows v))) → (v : Value) × (message o ≡ ok v) × (n ≡ length (rows v))
       by (ok v) k h = (v, k, same_ok h)
-      by (refused p) k h = let z : ◌≡◌ {A = ℕ} 0 1 = cc in absurd (omega arith)
+      by (refused p) k h = cc
 
   valid : Valid said.0 × (spell said.0 ≡ o) × (length o ≤ 65535)
   valid = (accepted-exactly o said.0 c).0 said.1
@@ -108,28 +68,28 @@ module _ (o : List ℕ) (t : Table) where
   within v = within_rows (shortest t) (rows v)
 
   -- a reading that gives x
-  read_as : (x : Answer (List Row)) {r : Measured} {t' : Table} → read_message (shortest t) o ≡ x → answer_of r ≡ then x counted → Holds x t t' → MessageRead o t r t'
+  read_as : (x : Answer (List Row)) {r : Result ℕ Refusal} {t' : Table} → read_message (shortest t) o ≡ x → answer_of r ≡ then x counted → Holds x t t' → MessageRead o t r t'
   read_as x {r} {t'} e k h = record { told = k ∙ ap (λ (y : Answer (List Row)). then y counted) (sym e); holds = subst (λ (y : Answer (List Row)). Holds y t t') (sym e) h }
 
-  pub read-refused : {x : Measured} {q : Refusal} → answer_of x ≡ rows_needed o → x ≡ Refused q → MessageRead o t (Refused q) t
+  pub read-refused : {x : Result ℕ Refusal} {q : Refusal} → answer_of x ≡ rows_needed o → x ≡ Err q → MessageRead o t (Err q) t
   unfolding rows_needed read_message
   read-refused {q = q} h e = read_as (refused q) (by (message o) (ap answer_of (sym e) ∙ h)) refl refl
     where
       by : (x : Answer Value) → refused q ≡ then x (λ v. ok (length (rows v))) → then x within ≡ refused q
-      by (ok v) h = let z : ◌≡◌ {A = ℕ} 0 1 = cc in absurd (omega arith)
+      by (ok v) h = cc
       by (refused p) h = ap refused (sym (same-refused h))
 
-  module _ {x : Measured} {n : ℕ} (h : answer_of x ≡ rows_needed o) (e : x ≡ Amount n) (c : Octets o) where
-    read_by : {b d : Bool} {t' : Table} → RowsStored o n t b t' → b ≡ d
-        → (read_message (shortest t) o ≡ unless d 12 (ok (rows (said o h e c).0))) × Holds (unless d 12 (ok (rows (said o h e c).0))) t t'
+  module _ {x : Result ℕ Refusal} {n : ℕ} (h : answer_of x ≡ rows_needed o) (e : x ≡ Ok n) (c : Octets o) where
+    read_by : {r q : Result (Unit {0}) Refusal} {t' : Table} → RowsStored o n t r t' → r ≡ q
+        → (read_message (shortest t) o ≡ stored_as q (rows (said o h e c).0)) × Holds (stored_as q (rows (said o h e c).0)) t t'
     unfolding read_message
-    read_by {b} {d} {t'} s k =
+    read_by {r} {q} {t'} s k =
         let w = s.stored (said o h e c).0 (valid o h e c).0 (sym (valid o h e c).1) (said o h e c).2 in
-        subst (λ (b : Bool). (read_message (shortest t) o ≡ unless b 12 (ok (rows (said o h e c).0))) × Holds (unless b 12 (ok (rows (said o h e c).0))) t t') k
+        subst (λ (x : Result (Unit {0}) Refusal). (read_message (shortest t) o ≡ stored_as x (rows (said o h e c).0)) × Holds (stored_as x (rows (said o h e c).0)) t t') k
         (ap (λ (x : Answer Value). then x within) (said o h e c).1 ∙ w.0, w.1)
 
-    pub read-rows : {b : Bool} {t' : Table} → RowsStored o n t b t' → b ≡ true → MessageRead o t (Amount n) t'
+    pub read-rows : {r : Result (Unit {0}) Refusal} {u : Unit {0}} {t' : Table} → RowsStored o n t r t' → r ≡ Ok u → MessageRead o t (Ok n) t'
     read-rows s k = let w = read_by s k in read_as (ok (rows (said o h e c).0)) w.0 (ap ok (said o h e c).2) w.1
 
-    pub read_short : {b : Bool} {t' : Table} → RowsStored o n t b t' → b ≡ false → MessageRead o t (Refused (refusal 12 0)) t'
-    read_short s k = let w = read_by s k in read_as (refused (refusal 12 0)) w.0 refl w.1
+    pub read_short : {r : Result (Unit {0}) Refusal} {q : Refusal} {t' : Table} → RowsStored o n t r t' → r ≡ Err q → MessageRead o t (Err q) t'
+    read_short {q = q} s k = let w = read_by s k in read_as (refused q) w.0 refl w.1

@@ -1,6 +1,6 @@
 -- Digits, and the numbers that they say.
 use mathlib.Core.Path.{◌≡◌, refl, sym, ap, ◌∙◌}
-use mathlib.Core.Bool.{Bool, true, false, ◌&&◌}
+use mathlib.Core.Bool.{Bool, true, false, cond, ◌&&◌}
 use mathlib.Core.List.{List, [], ◌∷◌}
 use Prim.Native.Nat.{ℕ, zero, suc, ◌+◌, ◌-◌, ◌*◌, ◌^◌, ◌<◌, ◌≤◌}
 use native.Mathlib.Omega.{arith}
@@ -9,28 +9,18 @@ use native.Mathlib.Nat.{pow-suc, pow-le-pow_right}
 use lib.ListN.{length, get_or, take, drop, length-drop, drop_of_length-le}
 use lib.Seq.{drop-cons, take_all}
 use lib.Dec.{leb}
-use lib.IntN.{pos, negsuc}
-use mir.Syntax.{w64}
-use mir.Val.{to_z}
-use mir.ValLaws.{to_z_pos}
-use borrow.Author.Tests.{leb-true, le-leb, lt-leb, lt-ltb, le-ltb, eq-eqb, ne_eqb}
-use Rattle.integer.proofs.Signs.{flipped}
+use lib.IntN.{ℤ, pos, ◌-ℤ◌}
+use lib.Signed.{mag}
+use mir.Syntax.{w128}
+use mir.Val.{SFits}
+use Rattle.std.specs.Prelude.{Some, None}
+use borrow.Author.Tests.{leb-true, lt-ltb, eq-eqb, ne_eqb}
 use Rattle.format.proofs.Every.{every-at}
-use Rattle.queries.specs.declared.Numeral.{Numeral}
-use Rattle.queries.specs.declared.Numeral.TheVariants.{Says, Not}
-use Rattle.queries.specs.declared.Integer.TheVariants.{Held, Beyond}
 use Rattle.queries.specs.Numerals.{is_decimal, all_decimal, digits_on, digits_of, numeral_of, signed}
-use Rattle.queries.specs.Reads.{held_in}
 
 -- ---- one digit
 
 module _ (d : ℕ) where
-  pub decimal-below : d < 0x30 → is_decimal d ≡ false
-  decimal-below h = rw (lt-leb 0x30 d h)
-
-  pub decimal-from : 0x30 ≤ d → is_decimal d ≡ leb d 0x39
-  decimal-from h = rw (le-leb 0x30 d h)
-
   decimal-range : is_decimal d ≡ true → (0x30 ≤ d) × (d ≤ 0x39)
   decimal-range e = by (leb 0x30 d) refl (leb d 0x39) refl e
     where
@@ -70,59 +60,55 @@ reading-all {l} {n} {i} r h = sym (r.rest ∙ ap (digits_on n) (drop_of_length-l
 
 -- ---- a field
 
-module _ (minus : Bool) (l : List ℕ) where
-  pub digits-none : length l < 1 → digits_of minus l ≡ Not
-  unfolding digits_of
-  digits-none h = rw (lt-leb 1 (length l) h)
+-- what digits say, without a minus and with one
+pub plain : (l : List ℕ) {z : ℤ} → Some z ≡ digits_of false l → z ≡ pos (mag z)
+unfolding digits_of
+plain l {z} e = by (leb 1 (length l) && leb (length l) 19 && all_decimal l) e
+  where
+    by : (t : Bool) → Some z ≡ cond t (Some (pos (digits_on 0 l))) None → z ≡ pos (mag z)
+    by true e = let f : z ≡ pos (digits_on 0 l) = cc in rw f refl
+    by false e = let x : ◌≡◌ {A = ℕ} 0 1 = cc in absurd (omega arith)
 
-  pub digits-many : 19 < length l → digits_of minus l ≡ Not
-  unfolding digits_of
-  digits-many h = rw (le-leb 1 (length l) (omega arith), lt-leb (length l) 19 h)
+pub minus-none : (l : List ℕ) → None ≡ digits_of false l → None ≡ digits_of true l
+unfolding digits_of
+minus-none l e = by (leb 1 (length l) && leb (length l) 19 && all_decimal l) e
+  where
+    by : (t : Bool) → None ≡ cond t (Some (pos (digits_on 0 l))) None → None ≡ cond t (Some (signed true (digits_on 0 l))) None
+    by true e = let x : ◌≡◌ {A = ℕ} 0 1 = cc in absurd (omega arith)
+    by false e = refl
 
-  pub digits-not : 1 ≤ length l → length l ≤ 19 → all_decimal l ≡ false → digits_of minus l ≡ Not
-  unfolding digits_of
-  digits-not h g e = rw (le-leb 1 (length l) h, le-leb (length l) 19 g, e)
+less : (n : ℕ) → pos 0 -ℤ pos n ≡ signed true n
+less zero = refl
+less (suc n) = let e : suc n - 1 ≡ n = omega arith in rw (lt-ltb 0 (suc n) (omega arith), e) refl
 
-  pub digits-said : 1 ≤ length l → length l ≤ 19 → all_decimal l ≡ true → {n : ℕ} → n ≡ digits_on 0 l → Says (record { minus = minus; size = n }) ≡ digits_of minus l
-  unfolding digits_of
-  digits-said h g e q = sym (rw (le-leb 1 (length l) h, le-leb (length l) 19 g, e, q))
+less-fits : (n : ℕ) → SFits w128 (pos n) → SFits w128 (signed true n)
+less-fits zero f = f
+less-fits (suc n) f = let g = f.sfits in record { sfits = omega arith }
+
+pub minus-fits : (l : List ℕ) {z : ℤ} → SFits w128 z → Some z ≡ digits_of false l → SFits w128 (pos 0 -ℤ z)
+minus-fits l {z} f e = let p = plain l e in rw (p, less (mag z)) (less-fits (mag z) (rw p at f))
+
+pub minus_some : (l : List ℕ) {z : ℤ} → Some z ≡ digits_of false l → Some (pos 0 -ℤ z) ≡ digits_of true l
+unfolding digits_of
+minus_some l {z} e = by (leb 1 (length l) && leb (length l) 19 && all_decimal l) e
+  where
+    by : (t : Bool) → Some z ≡ cond t (Some (pos (digits_on 0 l))) None → Some (pos 0 -ℤ z) ≡ cond t (Some (signed true (digits_on 0 l))) None
+    by true e = let f : z ≡ pos (digits_on 0 l) = cc in rw f (ap Some (less (digits_on 0 l)))
+    by false e = let x : ◌≡◌ {A = ℕ} 0 1 = cc in absurd (omega arith)
 
 module _ (l : List ℕ) where
-  pub field-none : length l < 1 → numeral_of l ≡ Not
-  unfolding numeral_of digits_of
+  pub field-none : length l < 1 → numeral_of l ≡ digits_of false l
+  unfolding numeral_of
   field-none h = by l h
     where
-      by : (l : List ℕ) → length l < 1 → numeral_of l ≡ Not
+      by : (l : List ℕ) → length l < 1 → numeral_of l ≡ digits_of false l
       by [] h = refl
       by (b ∷ l) h = absurd (omega arith)
 
-  pub field-minus : get_or l 0 0 ≡ 0x2D → {r : Numeral} → r ≡ digits_of true (take (length l - 1) (drop 1 l)) → r ≡ numeral_of l
+  pub field-minus : get_or l 0 0 ≡ 0x2D → numeral_of l ≡ digits_of true (take (length l - 1) (drop 1 l))
   unfolding numeral_of
-  field-minus e q = q ∙ ap (digits_of true) (take_all (length l - 1) (drop 1 l) (omega (arith, length-drop 1 l))) ∙ sym (rw (eq-eqb (get_or l 0 0) 0x2D e))
+  field-minus e = rw (eq-eqb (get_or l 0 0) 0x2D e) (sym (ap (digits_of true) (take_all (length l - 1) (drop 1 l) (omega (arith, length-drop 1 l)))))
 
-  pub field_plain : (get_or l 0 0 ≡ 0x2D → ⊥) → {r : Numeral} → r ≡ digits_of false l → r ≡ numeral_of l
+  pub field_plain : (get_or l 0 0 ≡ 0x2D → ⊥) → numeral_of l ≡ digits_of false l
   unfolding numeral_of
-  field_plain e q = q ∙ sym (rw (ne_eqb (get_or l 0 0) 0x2D e))
-
--- ---- an integer that so many bits hold
-
-signed-less : (n : ℕ) → 1 ≤ n → signed true n ≡ negsuc (n - 1)
-signed-less zero h = absurd (omega arith)
-signed-less (suc n) h = let e : suc n - 1 ≡ n = omega arith in rw e
-
--- with a minus or without, as the test of it says
-module _ (minus : Bool) (n bound : ℕ) where
-  pub minus-none : minus ≡ true → n ≡ 0 → 1 ≤ bound → Held (pos 0) ≡ held_in bound (signed minus n)
-  minus-none m e h = rw (m, e) (sym (rw (lt-ltb 0 bound (omega arith))))
-
-  pub minus-held : minus ≡ true → (n ≡ 0 → ⊥) → n ≤ bound → bound ≤ 2 ^ 63 → Held (to_z w64 (2 ^ 64 - 1 - (n - 1))) ≡ held_in bound (signed minus n)
-  minus-held m e h g = rw (m, signed-less n (omega arith), flipped w64 (n - 1) (omega arith)) (sym (rw (lt-ltb (n - 1) bound (omega arith))))
-
-  pub minus-beyond : minus ≡ true → (n ≡ 0 → ⊥) → bound < n → Beyond ≡ held_in bound (signed minus n)
-  minus-beyond m e h = rw (m, signed-less n (omega arith)) (sym (rw (le-ltb (n - 1) bound (omega arith))))
-
-  pub plain-held : minus ≡ false → n < bound → bound ≤ 2 ^ 63 → Held (to_z w64 n) ≡ held_in bound (signed minus n)
-  plain-held m h g = rw (m, to_z_pos w64 n (omega arith)) (sym (rw (lt-ltb n bound h)))
-
-  pub plain-beyond : minus ≡ false → bound ≤ n → Beyond ≡ held_in bound (signed minus n)
-  plain-beyond m h = rw m (sym (rw (le-ltb n bound h)))
+  field_plain e = rw (ne_eqb (get_or l 0 0) 0x2D e) refl

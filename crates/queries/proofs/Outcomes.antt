@@ -1,58 +1,23 @@
 -- The answer to a case, by what is read of it.
 use mathlib.Core.Path.{◌≡◌, refl, sym, ap, ◌∙◌}
-use mathlib.Core.Bool.{Bool, true, false, cond}
+use mathlib.Core.Bool.{Bool, true, false}
 use mathlib.Core.List.{List, []}
-use Prim.Native.Nat.{ℕ, ◌^◌, ◌<◌}
-use native.Mathlib.Omega.{arith}
+use Prim.Native.Nat.{ℕ, ◌^◌, ◌<◌, ◌≤◌}
 use lib.ListN.{get_or, drop}
 use lib.Dec.{ltb}
 use lib.IntN.{ℤ}
 use lib.Signed.{mag}
-use mir.Syntax.{w32, w64}
-use mir.Val.{SFits, to_z, of_z}
-use borrow.Author.Tests.{ltb-true, lt-ltb}
-use Rattle.integer.proofs.Signs.{held}
+use borrow.Author.Tests.{ltb-true, ltb-false, lt-ltb, le-ltb}
 use Rattle.reading.specs.Reading.{refusal}
 use Rattle.format.specs.declared.Row.{Row}
 use Rattle.format.specs.declared.As.{As}
 use Rattle.format.specs.Asking.{ask}
 use Rattle.format.specs.Message.{Answer, refused}
-use Rattle.queries.specs.declared.Number.{Number}
-use Rattle.queries.specs.declared.Integer.{Integer}
-use Rattle.queries.specs.declared.Integer.TheVariants.{Held, Beyond}
-use Rattle.queries.specs.declared.Word.{Word}
-use Rattle.queries.specs.Numerals.{numeral_of, integer_of, signed}
-use Rattle.queries.specs.Queries.{fields_of, after, last_word, row_of, ask_row, Outcome, answer, malformed, word_outcome, fields_outcome, outcome}
-use Rattle.queries.specs.Reads.{NumberRead, held_in}
+use Rattle.std.specs.Prelude.{Option}
+use Rattle.queries.specs.Numerals.{numeral_of, integer_of}
+use Rattle.queries.specs.Queries.{fields_of, after, last_word, row_of, ask_row, malformed, word_outcome, fields_outcome, outcome}
+use Rattle.queries.specs.Reads.{NumberRead}
 use Rattle.queries.proofs.Split.{after_none, after_one, after_stop, after_more, after_next}
-
--- ---- an integer that so many bits hold
-
-module _ {x : Integer} (bound : ℕ) (z : ℤ) (h : x ≡ held_in bound z) where
-  pub held-yes : {t : ℤ} → x ≡ Held t → (t ≡ z) × (mag z < bound)
-  held-yes {t} e = by (ltb (mag z) bound) refl (sym e ∙ h)
-    where
-      by : (y : Bool) → ltb (mag z) bound ≡ y → Held t ≡ cond y (Held z) Beyond → (t ≡ z) × (mag z < bound)
-      by true g e = (cc, ltb-true (mag z) bound g)
-      by false g e = let z : ◌≡◌ {A = ℕ} 0 1 = cc in absurd (omega arith)
-
-  pub held-not : x ≡ Beyond → ltb (mag z) bound ≡ false
-  held-not e = by (ltb (mag z) bound) (sym e ∙ h)
-    where
-      by : (y : Bool) → Beyond ≡ cond y (Held z) Beyond → y ≡ false
-      by true e = let z : ◌≡◌ {A = ℕ} 0 1 = cc in absurd (omega arith)
-      by false e = refl
-
--- a number of 64 bits, as one of fewer
-module _ {t z : ℤ} (e : t ≡ z) (h : mag z < 2 ^ 31) where
-  wide : SFits w64 z
-  wide = record { sfits = omega arith }
-
-  pub narrow-fits : SFits w32 (to_z w64 (of_z w64 t))
-  narrow-fits = rw (e, held wide) (record { sfits = h })
-
-  pub narrow : to_z w32 (of_z w32 (to_z w64 (of_z w64 t))) ≡ z
-  narrow = held narrow-fits ∙ ap (λ (y : ℤ). to_z w64 (of_z w64 y)) e ∙ held wide
 
 -- ---- the row's answer
 
@@ -61,17 +26,26 @@ pub ask-alike : (a : As) (r : Row) → ask a r ≡ ask a (row_of r.ty r.number)
 unfolding ask
 ask-alike a r = refl
 
+-- what the code asks, by its numbers as it holds them
 pub row_same : {row : Row} {s t m n : ℤ} → row ≡ row_of s m → s ≡ t → m ≡ n → row ≡ row_of t n
 row_same e p q = rw (← p, ← q) e
 
 module _ (a : As) (t n : ℤ) where
-  pub no-type : ltb (mag t) (2 ^ 31) ≡ false → {o : Outcome} → o ≡ answer (refused (refusal 14 0)) → o ≡ answer (ask_row a t n)
+  pub no-type : (mag t < 2 ^ 31 → ⊥) → refused (refusal 14 0) ≡ ask_row a t n
   unfolding ask_row
-  no-type e q = q ∙ sym (rw e)
+  no-type e = sym (rw (le-ltb (mag t) (2 ^ 31) (by (ltb (mag t) (2 ^ 31)) refl)))
+    where
+      by : (y : Bool) → ltb (mag t) (2 ^ 31) ≡ y → 2 ^ 31 ≤ mag t
+      by true g = absurd (e (ltb-true (mag t) (2 ^ 31) g))
+      by false g = ltb-false (mag t) (2 ^ 31) g
 
-  pub no_number : mag t < 2 ^ 31 → ltb (mag n) (2 ^ 63) ≡ false → {o : Outcome} → o ≡ answer (refused (refusal 14 0)) → o ≡ answer (ask_row a t n)
+  pub no_number : mag t < 2 ^ 31 → (mag n < 2 ^ 63 → ⊥) → refused (refusal 14 0) ≡ ask_row a t n
   unfolding ask_row
-  no_number h e q = q ∙ sym (rw (lt-ltb (mag t) (2 ^ 31) h, e))
+  no_number h e = sym (rw (lt-ltb (mag t) (2 ^ 31) h, le-ltb (mag n) (2 ^ 63) (by (ltb (mag n) (2 ^ 63)) refl)))
+    where
+      by : (y : Bool) → ltb (mag n) (2 ^ 63) ≡ y → 2 ^ 63 ≤ mag n
+      by true g = absurd (e (ltb-true (mag n) (2 ^ 63) g))
+      by false g = ltb-false (mag n) (2 ^ 63) g
 
   pub row-asked : mag t < 2 ^ 31 → mag n < 2 ^ 63 → {x : Answer ℤ} {row : Row} → x ≡ ask a row → row ≡ row_of t n → x ≡ ask_row a t n
   unfolding ask_row
@@ -88,7 +62,7 @@ pub first-not : (line : List ℕ) → after 1 (fields_of line) ≡ [] → malfor
 first-not line e = after-ten-none line (after_stop 9 (fields_of line) e)
 
 -- the type is read
-module _ (line : List ℕ) {k : Number} {second : ℕ} (r : NumberRead line 0 k second) where
+module _ (line : List ℕ) {k : ℤ} {second : ℕ} (r : NumberRead line 0 k second) where
   first : after 10 (fields_of line) ≡ after 9 (fields_of (drop second line))
   first = ap (after 10) r.parts ∙ after_one 9 r.field (fields_of (drop second line)) r.says
 
@@ -104,21 +78,21 @@ module _ (line : List ℕ) {k : Number} {second : ℕ} (r : NumberRead line 0 k 
     fourth-not s = after-ten-none line (third ∙ after_stop 6 (fields_of (drop fourth line)) s)
 
     -- and the number
-    module _ {n : Number} {fifth : ℕ} (x : NumberRead line fourth n fifth) where
+    module _ {n : ℤ} {fifth : ℕ} (x : NumberRead line fourth n fifth) where
       with_number : after 10 (fields_of line) ≡ after 6 (fields_of (drop fifth line))
       with_number = third ∙ ap (after 7) x.parts ∙ after_one 6 x.field (fields_of (drop fifth line)) x.says
 
       pub last_none : after 6 (fields_of (drop fifth line)) ≡ [] → malformed ≡ outcome line
       last_none s = after-ten-none line (with_number ∙ s)
 
-      type-is : integer_of (numeral_of (get_or (fields_of line) 0 [])) ≡ signed k.minus k.size
+      type-is : integer_of (numeral_of (get_or (fields_of line) 0 [])) ≡ k
       type-is = ap integer_of (ap (λ (fs : List (List ℕ)). numeral_of (get_or fs 0 [])) r.parts ∙ r.says)
 
-      number_is : integer_of (numeral_of (get_or (fields_of line) 3 [])) ≡ signed n.minus n.size
+      number_is : integer_of (numeral_of (get_or (fields_of line) 3 [])) ≡ n
       number_is = ap integer_of (ap (λ (fs : List (List ℕ)). numeral_of (get_or fs 3 [])) r.parts ∙ ap numeral_of (after_next 2 (fields_of (drop second line)) (e ∙ x.parts)) ∙ x.says)
 
       -- and six more
-      pub word_read : (last : ℕ) → after 6 (fields_of (drop fifth line)) ≡ fields_of (drop last line) → (w : Word) → w ≡ last_word (fields_of (drop last line))
-          → word_outcome w (signed k.minus k.size) (signed n.minus n.size) ≡ outcome line
+      pub word_read : (last : ℕ) → after 6 (fields_of (drop fifth line)) ≡ fields_of (drop last line) → (w : Option As) → w ≡ last_word (fields_of (drop last line))
+          → word_outcome w k n ≡ outcome line
       unfolding fields_outcome
       word_read last f w q = sym (rw (with_number ∙ f, ← q, type-is, number_is))

@@ -7,11 +7,10 @@ use native.Mathlib.Omega.{arith}
 use lib.ListN.{length, get_or, take, drop, length-drop}
 use lib.Seq.{take_all, drop-drop}
 use lib.Dec.{eqb}
+use lib.IntN.{ℤ}
 use Rattle.octets.specs.Octets.{slice, index_after, index_of}
-use Rattle.queries.specs.declared.Number.{Number}
-use Rattle.queries.specs.declared.Numeral.TheVariants.{Says, Not}
-use Rattle.queries.specs.declared.Word.{Word}
-use Rattle.queries.specs.declared.Word.TheVariants as words
+use Rattle.std.specs.Prelude.{Option, Some, None}
+use Rattle.format.specs.declared.As.{As}
 use Rattle.queries.specs.Numerals.{numeral_of, is_number}
 use Rattle.queries.specs.Queries.{onto, fields_of, after, word_of, last_word}
 use Rattle.queries.specs.Reads.{NumberRead}
@@ -66,11 +65,11 @@ unfolding after
 after_none zero = refl
 after_none (suc k) = refl
 
-pub after_one : (k : ℕ) (f : List ℕ) (fs : List (List ℕ)) {n : Number} → numeral_of f ≡ Says n → after (suc k) (f ∷ fs) ≡ after k fs
+pub after_one : (k : ℕ) (f : List ℕ) (fs : List (List ℕ)) {n : ℤ} → numeral_of f ≡ Some n → after (suc k) (f ∷ fs) ≡ after k fs
 unfolding after
 after_one k f fs e = rw e
 
-after-not : (f : List ℕ) (fs : List (List ℕ)) → numeral_of f ≡ Not → after 1 (f ∷ fs) ≡ []
+after-not : (f : List ℕ) (fs : List (List ℕ)) → numeral_of f ≡ None → after 1 (f ∷ fs) ≡ []
 unfolding after
 after-not f fs e = rw e
 
@@ -119,30 +118,30 @@ module _ (line : List ℕ) (at : ℕ) {end : ℕ} (h : at ≤ length line) (f : 
   pub number-last : length line ≤ end → after 1 (fields_of (drop at line)) ≡ []
   number-last g = ap (after 1) (field-only line at h f g) ∙ after-alone (drop at line)
 
-  pub number-not : end < length line → numeral_of (take (end - at) (drop at line)) ≡ Not → after 1 (fields_of (drop at line)) ≡ []
+  pub number-not : end < length line → numeral_of (take (end - at) (drop at line)) ≡ None → after 1 (fields_of (drop at line)) ≡ []
   number-not g e = ap (after 1) (field-first line at h f g) ∙ after-not (take (end - at) (drop at line)) (fields_of (drop (end + 1) line)) e
 
-  pub number_read : end < length line → {k : Number} → numeral_of (take (end - at) (drop at line)) ≡ Says k → NumberRead line at k (end + 1)
+  pub number_read : end < length line → {k : ℤ} → numeral_of (take (end - at) (drop at line)) ≡ Some k → NumberRead line at k (end + 1)
   number_read g e = record { field = take (end - at) (drop at line); says = e; parts = field-first line at h f g; within = omega arith }
 
 -- ---- a word at a place
 
 -- there is a field after a blank
-two : (f l : List ℕ) → last_word (f ∷ fields_of l) ≡ words.Not
+two : (f l : List ℕ) → last_word (f ∷ fields_of l) ≡ None
 unfolding fields_of
 two f [] = refl
 two f (b ∷ l) = by (eqb b 0x20) (fields_of l)
   where
-    by : (t : Bool) (fs : List (List ℕ)) → last_word (f ∷ cond t ([] ∷ fs) (onto b fs)) ≡ words.Not
+    by : (t : Bool) (fs : List (List ℕ)) → last_word (f ∷ cond t ([] ∷ fs) (onto b fs)) ≡ None
     by true fs = refl
     by false [] = refl
     by false (g ∷ fs) = refl
 
 module _ (line : List ℕ) (at : ℕ) {end : ℕ} (h : at ≤ length line) (f : end ≡ at + index_of 0x20 (slice at (length line) line)) where
-  pub word-not : end < length line → words.Not ≡ last_word (fields_of (drop at line))
+  pub word-not : end < length line → None ≡ last_word (fields_of (drop at line))
   word-not g = sym (ap last_word (field-first line at h f g) ∙ two (take (end - at) (drop at line)) (drop (end + 1) line))
 
-  pub word-last : length line ≤ end → {w : Word} → w ≡ word_of (take (length line - at) (drop at line)) → w ≡ last_word (fields_of (drop at line))
+  pub word-last : length line ≤ end → {w : Option As} → w ≡ word_of (take (length line - at) (drop at line)) → w ≡ last_word (fields_of (drop at line))
   word-last g q = q ∙ ap word_of (take_all (length line - at) (drop at line) (omega (arith, length-drop at line))) ∙ sym (ap last_word (field-only line at h f g))
 
 -- ---- numbers passed
@@ -151,7 +150,7 @@ pub pass-none : (line : List ℕ) (at count : ℕ) → after count (fields_of (d
 pass-none line at count = let e : count - 0 ≡ count = omega arith in rw e
 
 module _ (line : List ℕ) (at count i : ℕ) where
-  pub pass-again : {k : Number} {next : ℕ} → NumberRead line at k next → i < count → after (count - i) (fields_of (drop at line)) ≡ after (count - (i + 1)) (fields_of (drop next line))
+  pub pass-again : {k : ℤ} {next : ℕ} → NumberRead line at k next → i < count → after (count - i) (fields_of (drop at line)) ≡ after (count - (i + 1)) (fields_of (drop next line))
   pass-again {next = next} r h =
       let e : count - i ≡ suc (count - (i + 1)) = omega arith in
       rw (e, r.parts) (after_one (count - (i + 1)) r.field (fields_of (drop next line)) r.says)

@@ -1,13 +1,11 @@
 -- A case that asks a row, without its letter: ten numbers and a word, one blank between them (docs/STATEMENTS.md, "Cases").
-use Rattle.std.specs.Prelude.{Bool, true, false, cond, ◌&&◌, List, [], ◌∷◌, ℕ, zero, suc, ◌^◌, get_or, ltb, eqb, ℤ, pos}
+use Rattle.std.specs.Prelude.{Bool, true, false, cond, ◌&&◌, List, [], ◌∷◌, ℕ, zero, suc, ◌^◌, get_or, ltb, eqb, ℤ, pos, Option, Some, None}
 use Rattle.std.specs.Int.Signed.{mag}
 use Rattle.format.specs.declared.Row.{Row}
 use Rattle.format.specs.declared.As.{As}
 use Rattle.format.specs.declared.As.TheVariants.{Int16, Int32, Int64, Octet, Char, Boolean}
 use Rattle.format.specs.Asking.{ask}
 use Rattle.format.specs.Message.{Answer, unless}
-use Rattle.queries.specs.declared.Word.{Word}
-use Rattle.queries.specs.declared.Word.TheVariants.{Names, Not}
 use Rattle.queries.specs.Numerals.{numeral_of, integer_of, is_number}
 
 -- ---- fields
@@ -37,20 +35,20 @@ same (a ∷ l) [] = false
 same (a ∷ l) (b ∷ m) = eqb a b && same l m
 
 -- "int16", "int32", "int64", "octet", "char", "boolean"
-unfoldable pub word_of : List ℕ → Word
+unfoldable pub word_of : List ℕ → Option As
 word_of w =
-    cond (same w (0x69 ∷ 0x6E ∷ 0x74 ∷ 0x31 ∷ 0x36 ∷ [])) (Names Int16)
-    (cond (same w (0x69 ∷ 0x6E ∷ 0x74 ∷ 0x33 ∷ 0x32 ∷ [])) (Names Int32)
-    (cond (same w (0x69 ∷ 0x6E ∷ 0x74 ∷ 0x36 ∷ 0x34 ∷ [])) (Names Int64)
-    (cond (same w (0x6F ∷ 0x63 ∷ 0x74 ∷ 0x65 ∷ 0x74 ∷ [])) (Names Octet)
-    (cond (same w (0x63 ∷ 0x68 ∷ 0x61 ∷ 0x72 ∷ [])) (Names Char)
-    (cond (same w (0x62 ∷ 0x6F ∷ 0x6F ∷ 0x6C ∷ 0x65 ∷ 0x61 ∷ 0x6E ∷ [])) (Names Boolean) Not)))))
+    cond (same w (0x69 ∷ 0x6E ∷ 0x74 ∷ 0x31 ∷ 0x36 ∷ [])) (Some Int16)
+    (cond (same w (0x69 ∷ 0x6E ∷ 0x74 ∷ 0x33 ∷ 0x32 ∷ [])) (Some Int32)
+    (cond (same w (0x69 ∷ 0x6E ∷ 0x74 ∷ 0x36 ∷ 0x34 ∷ [])) (Some Int64)
+    (cond (same w (0x6F ∷ 0x63 ∷ 0x74 ∷ 0x65 ∷ 0x74 ∷ [])) (Some Octet)
+    (cond (same w (0x63 ∷ 0x68 ∷ 0x61 ∷ 0x72 ∷ [])) (Some Char)
+    (cond (same w (0x62 ∷ 0x6F ∷ 0x6F ∷ 0x6C ∷ 0x65 ∷ 0x61 ∷ 0x6E ∷ [])) (Some Boolean) None)))))
 
 -- the word that is the only field
-abbrev pub last_word : List (List ℕ) → Word
-last_word [] = Not
+abbrev pub last_word : List (List ℕ) → Option As
+last_word [] = None
 last_word (w ∷ []) = word_of w
-last_word (w ∷ f ∷ fs) = Not
+last_word (w ∷ f ∷ fs) = None
 
 -- ---- the answer
 
@@ -66,9 +64,9 @@ pub data Outcome : Type 0 where
   answer : Answer ℤ → Outcome
   malformed : Outcome
 
-abbrev pub word_outcome : Word → ℤ → ℤ → Outcome
-word_outcome (Names a) t n = answer (ask_row a t n)
-word_outcome Not t n = malformed
+abbrev pub word_outcome : Option As → ℤ → ℤ → Outcome
+word_outcome (Some a) t n = answer (ask_row a t n)
+word_outcome None t n = malformed
 
 -- by its fields: the first is the row's type, the fourth its number
 unfoldable pub fields_outcome : List (List ℕ) → Outcome

@@ -3,3 +3,4 @@ pub mod Sound
 pub mod Only
 pub mod Does
 pub mod Places
+pub mod Reasons

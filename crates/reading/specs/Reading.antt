@@ -1,11 +1,39 @@
 -- How a reading goes on: from a place, with the octets that are left and the identities given so far, to a result and a new state, or to
 -- a refusal. A `do` block is its steps in order, and the first refusal ends it, so the order of the lines is the order of the refusals.
-use Rattle.std.specs.Prelude.{Bool, true, false, List, [], ◌∷◌, ℕ, ◌+◌, drop}
+use Rattle.std.specs.Prelude.{Bool, true, false, List, [], ◌∷◌, ℕ, ◌+◌, ◌-◌, drop, get_or}
+use Rattle.reading.specs.declared.Reason.{Reason}
+use Rattle.reading.specs.declared.Reason.TheVariants.{Ended, TooLong, BadInteger, BadType, BadNumber, BadChar, BadTime, TooDeep, BadIdentity, BadReference, LeftOver, FewRows, ShortOutput, BadRow, OtherType, Missing, BadLine}
 use Rattle.reading.specs.declared.Refusal.{Refusal}
+
+-- the reasons by their numbers in document 01, from 1
+abbrev pub reasons : List Reason
+reasons = Ended ∷ TooLong ∷ BadInteger ∷ BadType ∷ BadNumber ∷ BadChar ∷ BadTime ∷ TooDeep ∷ BadIdentity ∷ BadReference ∷ LeftOver ∷ FewRows ∷ ShortOutput ∷ BadRow ∷ OtherType ∷ Missing ∷ BadLine ∷ []
+
+abbrev pub reason_of : ℕ → Reason
+reason_of n = get_or reasons (n - 1) Ended
+
+abbrev pub number_of : Reason → ℕ
+number_of Ended = 1
+number_of TooLong = 2
+number_of BadInteger = 3
+number_of BadType = 4
+number_of BadNumber = 5
+number_of BadChar = 6
+number_of BadTime = 7
+number_of TooDeep = 8
+number_of BadIdentity = 9
+number_of BadReference = 10
+number_of LeftOver = 11
+number_of FewRows = 12
+number_of ShortOutput = 13
+number_of BadRow = 14
+number_of OtherType = 15
+number_of Missing = 16
+number_of BadLine = 17
 
 -- refusal n at place p
 abbrev pub refusal : ℕ → ℕ → Refusal
-refusal n p = record { place = p; number = n }
+refusal n p = record { place = p; reason = reason_of n }
 
 -- the numbers of the identities given so far, and of those whose value has ended
 pub record Env : Type 0 where

@@ -1,29 +1,27 @@
 -- The rows of ten columns.
-use mathlib.Core.Path.{◌≡◌, refl, sym, ap, subst, ◌∙◌}
-use mathlib.Core.Bool.{Bool, true, false}
+use mathlib.Core.Path.{◌≡◌, refl, sym, ap, ◌∙◌}
+use mathlib.Core.Bool.{Bool, true, false, cond}
 use mathlib.Core.List.{List, [], ◌∷◌, ◌++◌, map, append_assoc, append-nil}
-use Prim.Native.Nat.{ℕ, zero, suc, ◌+◌, ◌-◌, ◌<◌, ◌≤◌}
+use Prim.Native.Nat.{ℕ, zero, suc, ◌+◌, ◌<◌, ◌≤◌}
 use native.Mathlib.Omega.{arith}
-use lib.ListN.{length, get_or, drop, length-append, length-map}
-use lib.Seq.{get_or-drop, drop-drop}
-use lib.IntN.{pos}
-use lib.Dec.{ltb}
-use borrow.Author.Tests.{ltb-true, ltb-false, eq-eqb, ne_eqb}
+use lib.ListN.{length, get_or, take, drop, length-append, length-map}
+use lib.Seq.{get_or-drop, drop-drop, drop-cons, length-take-le}
+use lib.IntN.{ℤ, pos}
+use lib.Dec.{eqb}
+use native.Mathlib.Numerals.{add-one}
+use Rattle.std.specs.Prelude.{Option, Some, None, position}
+use Rattle.std.specs.List.{position_from}
+use Rattle.std.proofs.lemmas.List.Quantifiers.{position-Some}
+use Rattle.std.proofs.lemmas.Iterator.Adapters.{position_from-zero}
 use Rattle.reading.specs.Reading.{refusal}
 use Rattle.format.specs.declared.Row.{Row}
 use Rattle.format.specs.declared.As.{As}
-use Rattle.format.specs.Message.{refused}
+use Rattle.format.specs.Message.{Answer, refused}
 use Rattle.format.specs.Asking.{ask, lookup}
 use Rattle.format.specs.Writing.{Table, row_at, tabled}
-use Rattle.message.specs.Messages.{shortest}
-use Rattle.message.proofs.Messages.{room_for}
-use Rattle.columns.specs.Columns.{Roomy, over, Filled}
-use Rattle.format.specs.Rows.{Sized}
-use Rattle.records.specs.Records.{RowOf, LabelAt, rows_in}
-
--- its numbers are of the columns' types
-pub row_of : {t : Table} {k : ℕ} {r : Row} → r ≡ row_at t k → Sized (row_at t k) → RowOf t k r
-row_of e h = record { same = e; held = subst Sized (sym e) h }
+use Rattle.columns.specs.Columns.{shortest, RowOf, Roomy, over, Filled}
+use Rattle.columns.proofs.Storing.{room_for}
+use Rattle.records.specs.Records.{rows_in}
 
 -- ---- rows that stand in the columns
 
@@ -143,56 +141,41 @@ module _ {A : Type 0} (text : Row → List A) (texts : List Row → List A) (non
 
 -- ---- the first row with a label
 
--- the first i labels are others
-pub record Others (l : List ℕ) (x i : ℕ) : Type 0 where
-  pub none : (k : ℕ) → k < i → get_or l k 0 ≡ x → ⊥
+abbrev asked_at : Table → As → Option ℕ → Answer ℤ
+asked_at t a (Some k) = ask a (row_at t k)
+asked_at t a None = refused (refusal 16 0)
 
-pub others-none : {l : List ℕ} {x : ℕ} → Others l x 0
-others-none = record { none = λ k h e. omega (arith, h) }
-
-pub others-more : {l : List ℕ} {x i : ℕ} → Others l x i → (get_or l i 0 ≡ x → ⊥) → Others l x (i + 1)
-others-more {l} {x} {i} b e = record { none = λ k h q. by k h q (ltb k i) refl }
-  where
-    by : (k : ℕ) → k < i + 1 → get_or l k 0 ≡ x → (y : Bool) → ltb k i ≡ y → ⊥
-    by k h q true m = b.none k (ltb-true k i m) q
-    by k h q false m = let same : k ≡ i = omega (arith, h, ltb-false k i m) in e (subst (λ (j : ℕ). get_or l j 0 ≡ x) same q)
-
-pub label-here : {l : List ℕ} {n x i : ℕ} → Others l x i → i < n → get_or l i 0 ≡ x → LabelAt l n x i
-label-here b h e = record { before = b.none; found = λ k. e; within = omega (arith, h) }
-
-pub label-nowhere : {l : List ℕ} {n x i : ℕ} → (i ≤ n) × Others l x i → n ≤ i → LabelAt l n x n
-label-nowhere b h = record { before = λ k g. b.1.none k (omega (arith, g, h)); found = λ k. absurd (omega (arith, k)); within = omega arith }
-
--- rows with other labels are passed over
-passed : (t : Table) (x : ℕ) (a : As) (m n i : ℕ) → ((k : ℕ) → i ≤ k → k < i + m → get_or t.label k 0 ≡ x → ⊥) → lookup (tabled t i (m + n)) x a ≡ lookup (tabled t (i + m) n) x a
+-- of n rows from i on
+asked_from : (t : Table) (x : ℕ) (a : As) (n i : ℕ) → i + n ≤ length t.label → asked_at t a (position_from (λ l. eqb l x) i (take n (drop i t.label))) ≡ lookup (tabled t i n) x a
 unfolding tabled lookup
-passed t x a zero n i b = let e : zero + n ≡ n = omega arith in let f : i + zero ≡ i = omega arith in rw (e, f)
-passed t x a (suc m) n i b =
-    let e : suc m + n ≡ suc (m + n) = omega arith in
-    let f : i + suc m ≡ suc i + m = omega arith in
-    rw (e, f, ne_eqb (get_or t.label i 0) x (b i (omega arith) (omega arith))) (passed t x a m n (suc i) (λ k h g. b k (omega (arith, h)) (omega (arith, g))))
-
-module _ (t : Table) {n x r : ℕ} (s : n ≡ shortest t) (l : LabelAt t.label n x r) (a : As) where
-  to_row : lookup (rows_in t) x a ≡ lookup (tabled t r (n - r)) x a
-  unfolding rows_in
-  to_row =
-      let e : shortest t ≡ r + (n - r) = omega (arith, s, l.within) in
-      let z : 0 + r ≡ r = omega arith in
-      ap (λ (m : ℕ). lookup (tabled t 0 m) x a) e ∙ passed t x a r (n - r) 0 (λ k h g. l.before k (omega (arith, g))) ∙ ap (λ (i : ℕ). lookup (tabled t i (n - r)) x a) z
-
-  pub row-asked : r < n → {q : Row} → RowOf t r q → ask a q ≡ lookup (rows_in t) x a
-  unfolding tabled lookup
-  row-asked h w =
-      let e : n - r ≡ suc (n - r - 1) = omega (arith, h) in
-      ap (ask a) w.same ∙ sym (to_row ∙ rw (e, eq-eqb (get_or t.label r 0) x (l.found h)))
-
-  pub no_row : n ≤ r → refused (refusal 16 0) ≡ lookup (rows_in t) x a
-  unfolding tabled lookup
-  no_row h = let e : n - r ≡ 0 = omega (arith, h) in sym (to_row ∙ rw e)
-
--- a row below the shortest column's length
-pub shortest-room : {n k : ℕ} (t : Table) → n ≡ shortest t → k < n → Roomy (k + 1) t
-shortest-room t e h = room_for t (omega (arith, e, h))
+asked_from t x a zero i h = refl
+asked_from t x a (suc n) i h =
+    let long : i < length t.label = omega arith in
+    let rest : i + 1 + n ≤ length t.label = omega arith in
+    rw (drop-cons t.label i 0 long) (by (eqb (get_or t.label i 0) x) (ap (λ (j : ℕ). asked_at t a (position_from (λ l. eqb l x) (i + 1) (take n (drop j t.label)))) (sym (add-one i)) ∙ asked_from t x a n (i + 1) rest ∙ ap (λ (j : ℕ). lookup (tabled t j n) x a) (add-one i)))
+  where
+    by : (b : Bool) → asked_at t a (position_from (λ l. eqb l x) (i + 1) (take n (drop (suc i) t.label))) ≡ lookup (tabled t (suc i) n) x a
+        → asked_at t a (cond b (Some i) (position_from (λ l. eqb l x) (i + 1) (take n (drop (suc i) t.label)))) ≡ cond b (ask a (row_at t i)) (lookup (tabled t (suc i) n) x a)
+    by true e = refl
+    by false e = e
 
 pub labels-room : {n : ℕ} (t : Table) → n ≡ shortest t → n ≤ length t.label
 labels-room {n} t e = (room_for {n = n} t (omega (arith, e))).label_room
+
+module _ (t : Table) (x : ℕ) {n : ℕ} (s : n ≡ shortest t) (a : As) where
+  asked : (o : Option ℕ) → o ≡ position (λ l. eqb l x) (take n t.label) → asked_at t a o ≡ lookup (rows_in t) x a
+  unfolding rows_in
+  asked o e = let room : 0 + n ≤ length t.label = omega (arith, labels-room t s) in rw (e ∙ position_from-zero (λ l. eqb l x) (take n t.label), ← s) (asked_from t x a n 0 room)
+
+  module _ {o : Option ℕ} (e : o ≡ position (λ l. eqb l x) (take n t.label)) where
+    pub row-asked : {k : ℕ} → o ≡ Some k → {q : Row} → RowOf t k q → ask a q ≡ lookup (rows_in t) x a
+    row-asked {k} f w = ap (ask a) w.same ∙ asked (Some k) (sym f ∙ e)
+
+    pub no_row : o ≡ None → refused (refusal 16 0) ≡ lookup (rows_in t) x a
+    no_row f = asked None (sym f ∙ e)
+
+-- a row that is found stands in every column
+pub found-room : (t : Table) (x : ℕ) {n : ℕ} {o : Option ℕ} {k : ℕ} → n ≡ shortest t → o ≡ position (λ l. eqb l x) (take n t.label) → o ≡ Some k → Roomy (k + 1) t
+found-room t x {n} {k = k} s e f =
+    let p = position-Some (λ l. eqb l x) (take n t.label) k 0 (sym e ∙ f) in
+    room_for t (omega (arith, p.0, length-take-le n t.label (labels-room t s), s))

@@ -1,45 +1,22 @@
 -- What a field tells.
 use mathlib.Core.Path.{◌≡◌, refl, ap, sym, ◌∙◌}
 use mathlib.Core.Bool.{Bool, true, false, ◌&&◌}
-use mathlib.Core.List.{List, []}
-use Prim.Native.Nat.{ℕ, ◌-◌, ◌*◌, ◌%◌, ◌<◌, ◌≤◌}
+use mathlib.Core.List.{List}
+use Prim.Native.Nat.{ℕ, ◌-◌, ◌*◌, ◌%◌, ◌≤◌}
 use native.Mathlib.Omega.{arith}
 use lib.ListN.{length, get_or, take, drop, length-drop}
 use lib.Seq.{length-sets, take_all}
 use lib.Dec.{leb, eqb}
-use borrow.Author.Tests.{leb-true, eqb-true, le-leb, lt-leb, lt-ltb, le-ltb, eq-eqb, ne_eqb}
+use borrow.Author.Tests.{leb-true, eqb-true, le-leb, le-ltb, eq-eqb, ne_eqb}
 use Rattle.format.specs.Desk.{all_digits, octets_of}
 use Rattle.integer.specs.Writes.{Room, Wrote}
 use Rattle.text.proofs.Digits.{octets-length}
 use Rattle.text.proofs.Writes.{wrote-front}
-use Rattle.text.specs.declared.Line.{Line}
-use Rattle.text.specs.declared.Line.TheVariants.{Octets, Not}
-use Rattle.queries.specs.Queries.{outcome}
-use Rattle.listing.specs.Listing.{Listed}
-use Rattle.replies.specs.Cases.{some, malformed, field_of, alone, bad, query_text, field_reply, case_reply}
+use Rattle.std.specs.Prelude.{Option, Some, None}
+use Rattle.replies.specs.Cases.{some, field_of, alone, field_reply, case_reply}
 use Rattle.replies.specs.Fields.{FieldRead, asks_row, plain_text, CaseRead}
 
 module _ (l : List ℕ) where
-  pub none-there : length l ≡ 0 → field_of l ≡ malformed
-  unfolding field_of
-  none-there h = rw (ne_eqb (length l) 1 (λ e. omega arith), lt-leb 2 (length l) (omega arith))
-
-  pub dash : length l ≡ 1 → get_or l 0 0 ≡ 0x2D → field_of l ≡ some []
-  unfolding field_of
-  dash h e = rw (eq-eqb (length l) 1 h, eq-eqb (get_or l 0 0) 0x2D e)
-
-  pub lone : length l ≡ 1 → (get_or l 0 0 ≡ 0x2D → ⊥) → field_of l ≡ malformed
-  unfolding field_of
-  lone h e = rw (eq-eqb (length l) 1 h, ne_eqb (get_or l 0 0) 0x2D e, lt-leb 2 (length l) (omega arith))
-
-  pub odd : 2 ≤ length l → (length l % 2 ≡ 0 → ⊥) → field_of l ≡ malformed
-  unfolding field_of
-  odd h o = rw (ne_eqb (length l) 1 (λ e. omega arith), le-leb 2 (length l) h, ne_eqb (length l % 2) 0 o)
-
-  pub undigit : 2 ≤ length l → length l % 2 ≡ 0 → all_digits l ≡ false → field_of l ≡ malformed
-  unfolding field_of
-  undigit h o e = rw (ne_eqb (length l) 1 (λ e. omega arith), le-leb 2 (length l) h, eq-eqb (length l % 2) 0 o, e)
-
   whole : 2 ≤ length l → length l % 2 ≡ 0 → all_digits l ≡ true → field_of l ≡ some (octets_of l)
   unfolding field_of
   whole h o e = rw (ne_eqb (length l) 1 (λ e. omega arith), le-leb 2 (length l) h, eq-eqb (length l % 2) 0 o, e)
@@ -60,15 +37,7 @@ rest_all l = take_all (length l - 2) (drop 2 l) (omega (arith, length-drop 2 l))
 -- ---- a case that asks a row
 
 module _ (l : List ℕ) where
-  pub asks-short : length l < 2 → asks_row l ≡ false
-  unfolding asks_row
-  asks-short h = rw (lt-leb 2 (length l) h)
-
-  pub asks-other : 2 ≤ length l → (get_or l 0 0 ≡ 0x41 → ⊥) → asks_row l ≡ false
-  unfolding asks_row
-  asks-other h e = rw (le-leb 2 (length l) h, ne_eqb (get_or l 0 0) 0x41 e)
-
-  pub asks-blank : 2 ≤ length l → get_or l 0 0 ≡ 0x41 → asks_row l ≡ eqb (get_or l 1 0) 0x20
+  asks-blank : 2 ≤ length l → get_or l 0 0 ≡ 0x41 → asks_row l ≡ eqb (get_or l 1 0) 0x20
   unfolding asks_row
   asks-blank h e = rw (le-leb 2 (length l) h, eq-eqb (get_or l 0 0) 0x41 e)
 
@@ -86,29 +55,15 @@ module _ (l : List ℕ) where
   asks-no : asks_row l ≡ false → 2 ≤ length l → get_or l 1 0 ≡ 0x20 → get_or l 0 0 ≡ 0x41 → ⊥
   asks-no e h b k = let t : true ≡ false = sym (asks-blank h k ∙ eq-eqb (get_or l 1 0) 0x20 b) ∙ e in let z : ◌≡◌ {A = ℕ} 0 1 = cc in omega arith
 
-  module _ {at next : ℕ} {m out : List ℕ} where
-    pub plain-query : asks_row l ≡ true → Listed (query_text (outcome (take (length l - 2) (drop 2 l)))) at m next out → Listed (plain_text l) at m next out
-    plain-query e w = rw e (rw (rest_all l) at w)
-
-    pub plain-bad : asks_row l ≡ false → Listed bad at m next out → Listed (plain_text l) at m next out
-    plain-bad e w = rw e w
-
   pub case-asks : asks_row l ≡ true → case_reply l ≡ alone (plain_text l)
   case-asks e = let y = asks-yes e in rw (e, le-ltb (length l) 2 y.0, eq-eqb (get_or l 1 0) 0x20 y.2, eq-eqb (get_or l 0 0) 0x41 y.1)
 
 -- ---- the others
 
-module _ (l : List ℕ) (a : asks_row l ≡ false) where
-  pub case-short : length l < 2 → case_reply l ≡ alone (plain_text l)
-  case-short h = rw (a, lt-ltb (length l) 2 h)
+module _ (l : List ℕ) (a : asks_row l ≡ false) (h : 2 ≤ length l) where
+  case-field : get_or l 1 0 ≡ 0x20 → case_reply l ≡ field_reply (get_or l 0 0) (field_of (drop 2 l))
+  case-field e = rw (le-ltb (length l) 2 h, eq-eqb (get_or l 1 0) 0x20 e, ne_eqb (get_or l 0 0) 0x41 (asks-no l a h e))
 
-  module _ (h : 2 ≤ length l) where
-    pub case-other : (get_or l 1 0 ≡ 0x20 → ⊥) → case_reply l ≡ alone (plain_text l)
-    case-other e = rw (a, le-ltb (length l) 2 h, ne_eqb (get_or l 1 0) 0x20 e)
-
-    case-field : get_or l 1 0 ≡ 0x20 → case_reply l ≡ field_reply (get_or l 0 0) (field_of (drop 2 l))
-    case-field e = rw (le-ltb (length l) 2 h, eq-eqb (get_or l 1 0) 0x20 e, ne_eqb (get_or l 0 0) 0x41 (asks-no l a h e))
-
-    pub case-read : get_or l 1 0 ≡ 0x20 → (r : Line) (after : List ℕ) → FieldRead (take (length l - 2) (drop 2 l)) r after → CaseRead l r after
-    case-read e (Octets n) after f = (case-field e ∙ ap (field_reply (get_or l 0 0)) (ap field_of (sym (rest_all l)) ∙ f.0), f.1, h)
-    case-read e Not after f = case-field e ∙ ap (field_reply (get_or l 0 0)) (ap field_of (sym (rest_all l)) ∙ f) ∙ sym (rw a)
+  pub case-read : get_or l 1 0 ≡ 0x20 → (r : Option ℕ) (after : List ℕ) → FieldRead (take (length l - 2) (drop 2 l)) r after → CaseRead l r after
+  case-read e (Some n) after f = (case-field e ∙ ap (field_reply (get_or l 0 0)) (ap field_of (sym (rest_all l)) ∙ f.0), f.1, h)
+  case-read e None after f = case-field e ∙ ap (field_reply (get_or l 0 0)) (ap field_of (sym (rest_all l)) ∙ f) ∙ sym (rw a)

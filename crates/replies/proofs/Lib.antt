@@ -1,4 +1,3 @@
 pub mod Texts
 pub mod Fields
 pub mod Slashes
-pub mod Alone

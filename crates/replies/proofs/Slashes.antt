@@ -1,41 +1,14 @@
 -- A slash for each line feed of a text that is written.
 use mathlib.Core.Path.{◌≡◌, refl, sym, ap, ◌∙◌}
 use mathlib.Core.List.{List, [], ◌∷◌, ◌++◌, map, append_assoc, append-nil}
-use Prim.Native.Nat.{ℕ, suc, ◌+◌, ◌-◌, ◌<◌, ◌≤◌}
+use Prim.Native.Nat.{ℕ, suc, ◌+◌, ◌<◌, ◌≤◌}
 use native.Mathlib.Omega.{arith}
-use lib.ListN.{length, get_or, take, set, length-append, length-map, length-set}
+use lib.ListN.{length, get_or, set, length-append, length-map, length-set}
 use lib.Seq.{sets, set-set, get_or-set_same, get_or-set_other, length-sets}
-use borrow.Author.Tests.{eq-eqb, ne_eqb}
-use Rattle.reading.specs.Reading.{refusal}
-use Rattle.format.specs.Desk.{printed, line_text}
-use Rattle.format.specs.Message.{refused}
 use Rattle.integer.specs.Writes.{Wrote}
 use Rattle.text.proofs.Writes.{set-sets, sets-append, wrote_kept}
-use Rattle.listing.specs.Listing.{Listed}
-use Rattle.replies.specs.Cases.{slash, desk_text}
+use Rattle.replies.specs.Cases.{slash}
 use Rattle.replies.specs.Slashes.{SlashesPut}
-
--- ---- the desk's text
-
-module _ (o : List ℕ) {at next : ℕ} {l out : List ℕ} where
-  pub desk-none : length o ≡ 0 → Listed (printed (refused (refusal 17 0))) at l next out → Listed (desk_text o) at l next out
-  desk-none h w = by o h
-    where
-      by : (o : List ℕ) → length o ≡ 0 → Listed (desk_text o) at l next out
-      by [] h = w
-      by (b ∷ o) h = absurd (omega arith)
-
-  pub desk-other : (get_or o (length o - 1) 0 ≡ 0x0A → ⊥) → Listed (printed (refused (refusal 17 0))) at l next out → Listed (desk_text o) at l next out
-  desk-other e w = rw (ne_eqb (get_or o (length o - 1) 0) 0x0A e) w
-
-  pub desk-line : get_or o (length o - 1) 0 ≡ 0x0A → Listed (line_text (take (length o - 1) o)) at l next out → Listed (desk_text o) at l next out
-  desk-line e w = rw (eq-eqb (get_or o (length o - 1) 0) 0x0A e) w
-
-pub slash-feed : (b : ℕ) → b ≡ 0x0A → 0x2F ≡ slash b
-slash-feed b e = sym (rw (eq-eqb b 0x0A e))
-
-pub slash-other : (b : ℕ) → (b ≡ 0x0A → ⊥) → b ≡ slash b
-slash-other b e = sym (rw (ne_eqb b 0x0A e))
 
 -- ---- slashes
 

@@ -1,20 +1,15 @@
 -- Cases and the lines that answer them (docs/STATEMENTS.md, "Cases").
 use Rattle.std.specs.Prelude.{Bool, cond, ◌&&◌, List, [], ◌∷◌, ◌++◌, map, ℕ, ◌-◌, ◌%◌, length, get_or, take, drop, ltb, leb, eqb, ℤ, pos}
 use Rattle.reading.specs.declared.Refusal.{Refusal}
-use Rattle.reading.specs.Reading.{refusal}
+use Rattle.reading.specs.Reading.{refusal, number_of}
 use Rattle.format.specs.declared.Row.{Row}
-use Rattle.format.specs.Desk.{all_digits, octets_of, decimal, blank, feed, printed, line_text}
+use Rattle.format.specs.Desk.{all_digits, octets_of, feed, printed, line_text}
 use Rattle.format.specs.Message.{Answer, ok, refused, measure, read_message, read_frame}
-use Rattle.text.specs.Text.{others}
+use Rattle.text.specs.Text.{spaced, others}
 use Rattle.queries.specs.Queries as queries
 use Rattle.queries.specs.Queries.{Outcome, outcome}
 
 -- ---- answers
-
--- numbers, a blank before each
-unfoldable pub spaced : List ℤ → List ℕ
-spaced [] = []
-spaced (z ∷ l) = blank ++ (decimal z ++ spaced l)
 
 -- " | " and a row's ten numbers
 abbrev pub row_part : Row → List ℕ
@@ -42,7 +37,7 @@ accepted zs = 0x6F ∷ 0x6B ∷ spaced zs
 
 -- "no NUMBER PLACE 1"
 abbrev pub refused_by : Refusal → List ℕ
-refused_by r = 0x6E ∷ 0x6F ∷ spaced (pos r.number ∷ pos r.place ∷ pos 1 ∷ [])
+refused_by r = 0x6E ∷ 0x6F ∷ spaced (pos (number_of r.reason) ∷ pos r.place ∷ pos 1 ∷ [])
 
 abbrev pub reply : {A : Type 0} → (A → Reply) → Answer A → Reply
 reply f (ok a) = f a

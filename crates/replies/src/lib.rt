@@ -2,46 +2,28 @@
 
 ghost use Rattle.std.specs.Prelude.{◌≡◌, [], ◌∷◌, map, ◌+◌, ◌*◌, ◌≤◌, length, pos};
 ghost use Rattle.reading.specs.Reading.{refusal};
-ghost use Rattle.format.specs.Desk.{decimal, printed};
+ghost use Rattle.format.specs.Desk.{printed};
 ghost use Rattle.format.specs.Message.{refused, measure};
 ghost use Rattle.integer.specs.Writes.{Room, Wrote};
-ghost use Rattle.text.specs.Text.{others};
+ghost use Rattle.text.specs.Text.{spaced};
 ghost use Rattle.listing.specs.Listing.{Listed};
 ghost use Rattle.queries.specs.Queries.{outcome};
-ghost use Rattle.replies.specs.Cases.{spaced, row_part, bad, accepted, refused_by, reply, measured, slash, desk_text, query_text, alone_text};
+ghost use Rattle.replies.specs.Cases.{row_part, bad, accepted, refused_by, reply, measured, slash, desk_text, query_text, alone_text};
 ghost use Rattle.replies.specs.Fields.{FieldRead, CaseRead, asks_row, plain_text};
 ghost use Rattle.replies.specs.Slashes.{SlashesPut};
 
 use format::Row;
-use measure::Measured;
-use queries::Query;
-use reading::Refusal;
-use text::Line;
+use reading::{Reason, Refusal};
 
 // ---- Numbers ----
 
 // Writes a blank and a number from a place on.
 fn put_count(out: &mut [u8], at: usize, n: u64) -> usize
-    requires { Room (0x20 ∷ decimal (pos n)) at out.old }
-    ensures { Wrote (0x20 ∷ decimal (pos n)) at out.old result out.new }
+    requires { Room (spaced (pos n ∷ [])) at out.old }
+    ensures { Wrote (spaced (pos n ∷ [])) at out.old result out.new }
 {
     out[at] = b' ';
     text::put_digits(out, at + 1, n)
-}
-
-// Writes numbers from a place on, a blank before each.
-fn put_spaced(out: &mut [u8], at: usize, values: &[i64]) -> usize
-    requires { Room (spaced values.now) at out.old }
-    ensures { Wrote (spaced values.now) at out.old result out.new }
-{
-    let mut next = at;
-    let mut i = 0;
-    while i < values.len() {
-        out[next] = b' ';
-        next = text::put_number(out, next + 1, values[i]);
-        i += 1;
-    }
-    next
 }
 
 // ---- What an answer begins with ----
@@ -51,10 +33,7 @@ fn put_bad(out: &mut [u8], at: usize) -> usize
     requires { at + 32768 ≤ length out.old }
     ensures { Listed bad at out.old result out.new }
 {
-    out[at] = b'b';
-    out[at + 1] = b'a';
-    out[at + 2] = b'd';
-    at + 3
+    text::put_text(out, at, b"bad")
 }
 
 // Writes the beginning of an answer with a count.
@@ -62,9 +41,8 @@ pub fn put_ok(out: &mut [u8], at: usize, n: u64) -> usize
     requires { at + 32768 ≤ length out.old }
     ensures { Listed (accepted (pos n ∷ [])) at out.old result out.new }
 {
-    out[at] = b'o';
-    out[at + 1] = b'k';
-    put_count(out, at + 2, n)
+    let next = text::put_text(out, at, b"ok");
+    put_count(out, next, n)
 }
 
 // Writes a row's value.
@@ -72,10 +50,8 @@ fn put_value(out: &mut [u8], at: usize, v: i64) -> usize
     requires { at + 32768 ≤ length out.old }
     ensures { Listed (accepted (v ∷ [])) at out.old result out.new }
 {
-    out[at] = b'o';
-    out[at + 1] = b'k';
-    out[at + 2] = b' ';
-    text::put_number(out, at + 3, v)
+    let next = text::put_text(out, at, b"ok");
+    text::put_spaced(out, next, &[v])
 }
 
 // Writes the beginning of the answer to a frame: its conversation number and its count of rows.
@@ -83,11 +59,9 @@ pub fn put_framed(out: &mut [u8], at: usize, conversation: i32, rows: usize) -> 
     requires { at + 32768 ≤ length out.old }
     ensures { Listed (accepted (conversation ∷ pos rows ∷ [])) at out.old result out.new }
 {
-    out[at] = b'o';
-    out[at + 1] = b'k';
-    out[at + 2] = b' ';
-    let next = text::put_number(out, at + 3, conversation as i64);
-    put_count(out, next, rows as u64)
+    let next = text::put_text(out, at, b"ok");
+    let mid = text::put_spaced(out, next, &[conversation as i64]);
+    put_count(out, mid, rows as u64)
 }
 
 // Writes a refusal, in input 1.
@@ -95,68 +69,39 @@ pub fn put_no(out: &mut [u8], at: usize, r: Refusal) -> usize
     requires { at + 32768 ≤ length out.old }
     ensures { Listed (refused_by r) at out.old result out.new }
 {
-    out[at] = b'n';
-    out[at + 1] = b'o';
-    let place = put_count(out, at + 2, r.number as u64);
+    let next = text::put_text(out, at, b"no");
+    let place = put_count(out, next, r.reason.number() as u64);
     let input = put_count(out, place, r.place as u64);
     put_count(out, input, 1)
 }
 
 // ---- Rows ----
 
-// A row's ten numbers.
-fn numbers_of(r: Row) -> [i64; 10]
-    ensures { result ≡ r.ty ∷ others r }
-{
-    [
-        r.ty as i64,
-        r.own as i64,
-        r.label as i64,
-        r.number,
-        r.first as i64,
-        r.second as i64,
-        r.place as i64,
-        r.below as i64,
-        r.start as i64,
-        r.end as i64,
-    ]
-}
-
 // Writes a bar and a row's ten numbers from a place on.
 pub fn put_row(out: &mut [u8], at: usize, r: Row) -> usize
     requires { Room (row_part r) at out.old }
     ensures { Wrote (row_part r) at out.old result out.new }
 {
-    out[at] = b' ';
-    out[at + 1] = b'|';
-    let values = numbers_of(r);
-    put_spaced(out, at + 2, &values)
+    let next = text::put_text(out, at, b" |");
+    text::put_spaced(out, next, &text::numbers_of(r))
 }
 
 // ---- Cases ----
 
-// Reads a field of octets: writes them at the front.
-fn field_octets(field: &[u8], work: &mut [u8]) -> Line
+// Reads a field of octets: writes them at the front, and gives how many they are; None where it tells nothing.
+#[tactic(auto, unfolding(crate::specs::Cases::field_of))]
+fn field_octets(field: &[u8], work: &mut [u8]) -> Option<usize>
     requires { length field.now ≤ 2 * length work.old }
     ensures { FieldRead field.now result work.new }
 {
     let n = field.len();
-    if n == 0 {
-        return Line::Not;
+    if n == 1 && field[0] == b'-' {
+        return Some(0);
     }
-    if n == 1 {
-        if field[0] == b'-' {
-            return Line::Octets(0);
-        }
-        return Line::Not;
+    if n < 2 || n % 2 != 0 || !text::all_digits(field) {
+        return None;
     }
-    if n % 2 != 0 {
-        return Line::Not;
-    }
-    if !text::all_digits(field) {
-        return Line::Not;
-    }
-    Line::Octets(text::put_octets(work, field))
+    Some(text::put_octets(work, field))
 }
 
 // Measuring the first value.
@@ -165,8 +110,8 @@ fn begin_measure(src: &[u8], out: &mut [u8], at: usize) -> usize
     ensures { Listed (reply measured (measure src.now)).head at out.old result out.new }
 {
     match measure::measure(src) {
-        Measured::Amount(n) => put_ok(out, at, n as u64),
-        Measured::Refused(r) => put_no(out, at, r),
+        Ok(n) => put_ok(out, at, n as u64),
+        Err(r) => put_no(out, at, r),
     }
 }
 
@@ -180,7 +125,7 @@ fn put_no_line(out: &mut [u8], at: usize) -> usize
         at,
         Refusal {
             place: 0,
-            number: 17,
+            reason: Reason::BadLine,
         },
     )
 }
@@ -190,23 +135,16 @@ fn put_desk(src: &[u8], out: &mut [u8], at: usize) -> usize
     requires { at + 32768 ≤ length out.old }
     ensures { Listed (desk_text src.now) at out.old result out.new }
 {
-    let n = src.len();
-    if n == 0 {
-        return put_no_line(out, at);
+    match src {
+        [line @ .., b'\n'] => listing::list_line(line, out, at),
+        _ => put_no_line(out, at),
     }
-    if src[n - 1] != b'\n' {
-        return put_no_line(out, at);
-    }
-    listing::list_line(&src[..n - 1], out, at)
 }
 
 fn slash(b: u8) -> u8
     ensures { result ≡ slash b }
 {
-    if b == b'\n' {
-        return b'/';
-    }
-    b
+    if b == b'\n' { b'/' } else { b }
 }
 
 // Writes a slash for each line feed of what was written.
@@ -214,10 +152,8 @@ fn put_slashes(out: &mut [u8], at: usize, end: usize)
     requires { (at ≤ end) × (end ≤ length out.old) }
     ensures { SlashesPut at end out.old out.new }
 {
-    let mut i = at;
-    while i < end {
+    for i in at..end {
         out[i] = slash(out[i]);
-        i += 1;
     }
 }
 
@@ -237,23 +173,18 @@ fn begin_query(fields: &[u8], out: &mut [u8], at: usize) -> usize
     ensures { Listed (query_text (outcome fields.now)) at out.old result out.new }
 {
     match queries::ask_line(fields) {
-        Query::Value(v) => put_value(out, at, v),
-        Query::Refused(r) => put_no(out, at, r),
-        Query::Malformed => put_bad(out, at),
+        Some(Ok(v)) => put_value(out, at, v),
+        Some(Err(r)) => put_no(out, at, r),
+        None => put_bad(out, at),
     }
 }
 
 // Whether a case asks a row.
+#[tactic(auto, unfolding(crate::specs::Fields::asks_row))]
 fn asks_row(line: &[u8]) -> bool
     ensures { result ≡ asks_row line.now }
 {
-    if line.len() < 2 {
-        return false;
-    }
-    if line[0] != b'A' {
-        return false;
-    }
-    line[1] == b' '
+    matches!(line, [b'A', b' ', ..])
 }
 
 // The answer to a case that has no field of octets: it asks a row, or it is malformed.
@@ -267,33 +198,29 @@ pub fn begin_plain(line: &[u8], out: &mut [u8], at: usize) -> usize
     put_bad(out, at)
 }
 
-// The answer to a case that has no rows, by its kind.
+// The answer to a case that has no rows, by its kind: the letter that the case begins with, as it was read.
+#[tactic(auto, unfolding(crate::specs::Cases::alone_text))]
 pub fn begin_alone(kind: u8, src: &[u8], out: &mut [u8], at: usize) -> usize
     requires { at + 32768 ≤ length out.old }
     ensures { Listed (alone_text kind src.now) at out.old result out.new }
 {
-    if kind == b'L' {
-        return begin_measure(src, out, at);
+    match kind {
+        b'L' => begin_measure(src, out, at),
+        b'D' => begin_desk(src, out, at),
+        _ => put_bad(out, at),
     }
-    if kind == b'D' {
-        return begin_desk(src, out, at);
-    }
-    put_bad(out, at)
 }
 
-// Reads the field of octets of a case: writes them at the front.
-pub fn case_octets(line: &[u8], work: &mut [u8]) -> Line
+// Reads the field of octets of a case: writes them at the front, and gives how many they are; None where it has no such field.
+pub fn case_octets(line: &[u8], work: &mut [u8]) -> Option<usize>
     requires { length line.now ≤ 2 * length work.old }
     ensures { CaseRead line.now result work.new }
 {
     if asks_row(line) {
-        return Line::Not;
+        return None;
     }
-    if line.len() < 2 {
-        return Line::Not;
+    match line {
+        [_, b' ', field @ ..] => field_octets(field, work),
+        _ => None,
     }
-    if line[1] != b' ' {
-        return Line::Not;
-    }
-    field_octets(&line[2..], work)
 }

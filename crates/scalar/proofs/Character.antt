@@ -13,8 +13,7 @@ use Rattle.reading.specs.Reading.{Env, State, got, stop, refusal, stand, follow,
 use Rattle.reading.proofs.Sound.{never}
 use Rattle.reading.proofs.Places.{octet-at, octet-end}
 use Rattle.format.specs.Data.{followers, code_of, is_char, character}
-use Rattle.scalar.specs.declared.Coded.TheVariants.{Code, Lost}
-use Rattle.scalar.specs.declared.Passed.TheVariants.{Past, Refused}
+use Rattle.std.specs.Prelude.{Option, Some, None, Ok, Err}
 use Rattle.scalar.specs.Answers.{Passes, Codes}
 use Rattle.scalar.specs.Parts.{part, counts, spelling_of, Spells}
 use Rattle.scalar.proofs.Passing.{passes-got, passes-stop}
@@ -64,48 +63,49 @@ module _ (o : List ℕ) (at : ℕ) (h : at < length o) where
       by true = refl
       by false = refl
 
-  pub null-refused : a ≡ 0 → Passes 1 o at character (Refused (refusal 6 at))
+  pub null-refused : a ≡ 0 → Passes 1 o at character (Err (refusal 6 at))
   null-refused q = passes-stop (char-outside (rw q))
 
-  pub one-passed : 0 < a → a < 128 → Passes 1 o at character (Past (at + 1))
+  pub one-passed : 0 < a → a < 128 → Passes 1 o at character (Ok (at + 1))
   one-passed g k =
       let none : followers a ≡ 0 = rw (lt-ltb a 128 k) in
       passes-got a (λ e. char-there (rw (le-leb 1 a g, le-leb a 0x7F (omega arith))) (omega arith) true (rw none (is_one a g k)) e ∙ rw (none, add-zero (at + 1))) (omega arith) (omega arith)
 
   module _ (long : 128 ≤ a) where
-    pub outside-refused : leb 0xC0 a && leb a 0xEF ≡ false → Passes 1 o at character (Refused (refusal 6 at))
+    pub outside-refused : leb 0xC0 a && leb a 0xEF ≡ false → Passes 1 o at character (Err (refusal 6 at))
     outside-refused q = passes-stop (char-outside (begun-long long ∙ q))
 
     module _ (q : leb 0xC0 a && leb a 0xEF ≡ true) where
-      pub cut-refused : length o < at + (1 + followers a) → Passes 1 o at character (Refused (refusal 1 (length o)))
+      pub cut-refused : length o < at + (1 + followers a) → Passes 1 o at character (Err (refusal 1 (length o)))
       cut-refused g = passes-stop (char-short (begun-long long ∙ q) (omega arith))
 
-      module _ (g : at + (1 + followers a) ≤ length o) {r : ℕ} (s : Spells o at (length o) r) where
+      module _ (g : at + (1 + followers a) ≤ length o) {r : Option ℕ} (s : Spells o at (length o) r) where
         counted : r ≡ counts (1 + followers a) all
         counted = s.same ∙ all-spelt (omega arith)
 
-        pub misspelt-refused : r ≡ 0 → Passes 1 o at character (Refused (refusal 6 at))
+        pub misspelt-refused : r ≡ None → Passes 1 o at character (Err (refusal 6 at))
         misspelt-refused z = passes-stop (char-there (begun-long long ∙ q) (omega arith) false (by (is_char all) refl))
           where
             by : (t : Bool) → is_char all ≡ t → is_char all ≡ false
-            by true e = let is : r ≡ 1 + followers a = counted ∙ rw e in absurd (omega arith)
+            by true e = let is : r ≡ Some (1 + followers a) = counted ∙ rw e in let w : ◌≡◌ {A = ℕ} 0 1 = cc in absurd (omega arith)
             by false e = e
 
-        pub spelt-passed : (r ≡ 0 → ⊥) → Passes 1 o at character (Past (at + r))
-        spelt-passed n = by (is_char all) refl
+        pub spelt-passed : {k : ℕ} → r ≡ Some k → Passes 1 o at character (Ok (at + k))
+        spelt-passed {k} n = by (is_char all) refl
           where
-            by : (t : Bool) → is_char all ≡ t → Passes 1 o at character (Past (at + r))
+            by : (t : Bool) → is_char all ≡ t → Passes 1 o at character (Ok (at + k))
             by true e =
-                let is : r ≡ 1 + followers a = counted ∙ rw e in
-                let next : at + 1 + followers a ≡ at + r = omega arith in
+                let is : r ≡ Some (1 + followers a) = counted ∙ rw e in
+                let same : k ≡ 1 + followers a = cc in
+                let next : at + 1 + followers a ≡ at + k = omega arith in
                 passes-got _ (rw next at (char-there (begun-long long ∙ q) (omega arith) true e)) (omega arith) (omega arith)
-            by false e = absurd (n (counted ∙ rw e))
+            by false e = let is : r ≡ None = counted ∙ rw e in let w : ◌≡◌ {A = ℕ} 0 1 = cc in absurd (omega arith)
 
 char-end : (o : List ℕ) (at : ℕ) (e : Env) → length o ≤ at → character (stand o at e) ≡ stop (refusal 1 at)
 unfolding character ◌>>=◌ here
 char-end o at e h = rw (octet-end o at e h)
 
-pub none-refused : {o : List ℕ} {at : ℕ} → length o ≤ at → Passes 1 o at character (Refused (refusal 1 at))
+pub none-refused : {o : List ℕ} {at : ℕ} → length o ≤ at → Passes 1 o at character (Err (refusal 1 at))
 none-refused {o} {at} h = passes-stop λ e. char-end o at e h
 
 -- ---- where it is accepted
@@ -125,28 +125,28 @@ module _ (o : List ℕ) (at : ℕ) where
       by true x false y false z = absurd (never (sym (char-there o at h x (ltb-false _ _ y) false z e) ∙ q))
       by true x false y true z = (ltb-false _ _ y, sym (char-there o at h x (ltb-false _ _ y) true z e) ∙ q)
 
-  pub lost-none : length o ≤ at → Codes o at Lost
+  pub lost-none : length o ≤ at → Codes o at None
   lost-none h = record { same = λ e c s q. absurd (never (sym (char-end o at e h) ∙ q)); past = tt }
 
   module _ (h : at < length o) where
-    pub lost-cut : length o < at + (1 + followers first) → Codes o at Lost
+    pub lost-cut : length o < at + (1 + followers first) → Codes o at None
     lost-cut g = record { same = λ e c s q. absurd (omega (arith, (given h e c s q).0)); past = tt }
 
-    code_read : (k c : ℕ) → 1 + followers first ≡ k → at + k ≤ length o → c ≡ code_of (all o at h) → c < 2 ^ 16 → Codes o at (Code (at + k) c)
+    code_read : (k c : ℕ) → 1 + followers first ≡ k → at + k ≤ length o → c ≡ code_of (all o at h) → c < 2 ^ 16 → Codes o at (Some (at + k, c))
     code_read k c is g q small =
         let next : at + 1 + followers first ≡ at + k = omega arith in
         let some : 0 < k = omega arith in
         record { same = λ e d s w. rw (q, ← next) (given h e d s w).1; past = (omega arith, g, small) }
 
-    pub code_one : first < 128 → Codes o at (Code (at + 1) first)
+    pub code_one : first < 128 → Codes o at (Some (at + 1, first))
     code_one g = let none : followers first ≡ 0 = omega (arith, follow_one first g) in code_read 1 first (follow_one first g) (omega arith) (rw none) (omega arith)
 
-    pub code-two : {c : ℕ} → 128 ≤ first → first < 224 → at + 2 ≤ length o → c ≡ code_of (first ∷ get_or o (at + 1) 0 ∷ []) → Codes o at (Code (at + 2) c)
+    pub code-two : {c : ℕ} → 128 ≤ first → first < 224 → at + 2 ≤ length o → c ≡ code_of (first ∷ get_or o (at + 1) 0 ∷ []) → Codes o at (Some (at + 2, c))
     code-two {c} g k w q =
         let one : followers first ≡ 1 = omega (arith, follow-two first g k) in
         code_read 2 c (follow-two first g k) w (q ∙ rw (one, take_more o 0 (at + 1) (omega arith))) (omega (arith, q))
 
-    pub code-three : {c : ℕ} → 224 ≤ first → at + 3 ≤ length o → c ≡ code_of (first ∷ get_or o (at + 1) 0 ∷ get_or o (at + 2) 0 ∷ []) → Codes o at (Code (at + 3) c)
+    pub code-three : {c : ℕ} → 224 ≤ first → at + 3 ≤ length o → c ≡ code_of (first ∷ get_or o (at + 1) 0 ∷ get_or o (at + 2) 0 ∷ []) → Codes o at (Some (at + 3, c))
     code-three {c} g w q =
         let two : followers first ≡ 2 = omega (arith, follow-three first g) in
         let next : at + 1 + 1 ≡ at + 2 = omega arith in

@@ -9,7 +9,9 @@ use lib.Seq.{take-nil}
 use lib.Dec.{ltb, leb, eqb}
 use borrow.Author.Tests.{ltb-true, ltb-false, lt-ltb, le-ltb, le-leb, lt-leb, leb-true, leb-false, eqb-true, eq-eqb}
 use Rattle.format.specs.Data.{eq_list, spell_char, followers, code_of, is_char}
-use Rattle.scalar.specs.Parts.{part, counts, spelling_of, Spells}
+use Rattle.scalar.specs.Parts.{part, counts, spelling_of, Within, Spells}
+use Rattle.std.specs.Prelude.{Option, Some, None}
+use Rattle.std.specs.Bool.{then_some}
 use Rattle.scalar.proofs.Octets.{part-more, part_none}
 use Rattle.reading.proofs.Tests.{no, and_split}
 
@@ -132,24 +134,43 @@ same-three p q r = cc
 pub is-three : (a b c : ℕ) → 224 ≤ a → a < 240 → b / 64 ≡ 2 → c / 64 ≡ 2 → 2048 ≤ a % 16 * 4096 + b % 64 * 64 + c % 64 → is_char (a ∷ b ∷ c ∷ []) ≡ true
 is-three a b c h g k l m = char-yes (a ∷ b ∷ c ∷ []) (spell-three (a % 16 * 4096 + b % 64 * 64 + c % 64) m ∙ same-three (omega arith) (omega arith) (omega arith))
 
--- ---- as code counts them
+-- ---- as code tests and counts them
 
-pub counts-yes : (k : ℕ) (l : List ℕ) → is_char l ≡ true → k ≡ counts k l
+pub char-no : (l : List ℕ) → (is_char l ≡ true → ⊥) → false ≡ is_char l
+char-no l h = by (is_char l) refl
+  where
+    by : (t : Bool) → is_char l ≡ t → false ≡ is_char l
+    by true e = absurd (h e)
+    by false e = sym e
+
+-- where one more test says whether they are
+pub char-if : (l : List ℕ) (t : Bool) → (t ≡ true → is_char l ≡ true) → (t ≡ false → is_char l ≡ true → ⊥) → t ≡ is_char l
+char-if l true h g = sym (h refl)
+char-if l false h g = char-no l (g refl)
+
+pub counts-yes : (k : ℕ) (l : List ℕ) → is_char l ≡ true → Some k ≡ counts k l
 counts-yes k l e = rw e
 
-pub counts-no : (k : ℕ) (l : List ℕ) → (is_char l ≡ true → ⊥) → 0 ≡ counts k l
+pub counts-no : (k : ℕ) (l : List ℕ) → (is_char l ≡ true → ⊥) → None ≡ counts k l
 counts-no k l h = by (is_char l) refl
   where
-    by : (t : Bool) → is_char l ≡ t → 0 ≡ cond t k 0
+    by : (t : Bool) → is_char l ≡ t → ◌≡◌ {A = Option ℕ} None (cond t (Some k) None)
     by true e = absurd (h e)
     by false e = refl
 
-pub counts-most : (k : ℕ) (l : List ℕ) → counts k l ≤ k
-counts-most k l = by (is_char l)
+pub counted : (k : ℕ) (l : List ℕ) {b : Bool} {r : Option ℕ} → r ≡ then_some b k → b ≡ is_char l → r ≡ counts k l
+counted k l {b} e q = e ∙ by b q
   where
-    by : (t : Bool) → cond t k 0 ≤ k
-    by true = omega arith
-    by false = omega arith
+    by : (b : Bool) → b ≡ is_char l → then_some b k ≡ counts k l
+    by true q = counts-yes k l (sym q)
+    by false q = counts-no k l (λ t. no (q ∙ t))
+
+counts-within : (k : ℕ) (l : List ℕ) (at end : ℕ) → 0 < k → at + k ≤ end → Within at end (counts k l)
+counts-within k l at end h g = by (is_char l)
+  where
+    by : (t : Bool) → Within at end (cond t (Some k) None)
+    by true = (h, g)
+    by false = tt
 
 -- ---- the character at a place, before an end
 
@@ -172,7 +193,7 @@ module _ (o : List ℕ) (at end : ℕ) (g : at < end) (h : end ≤ length o) whe
   abbrev c : ℕ
   c = get_or o (at + 2) 0
 
-  spells : (k r : ℕ) (m : List ℕ) → 1 + followers a ≡ k → take k (part o at end) ≡ m → r ≡ counts k m → at + r ≤ end → Spells o at end r
+  spells : (k : ℕ) (r : Option ℕ) (m : List ℕ) → 1 + followers a ≡ k → take k (part o at end) ≡ m → r ≡ counts k m → Within at end r → Spells o at end r
   spells k r m is front e w = record { same = e ∙ sym (by ∙ rw (is, front)); within = w }
     where
       by : spelling_of (part o at end) ≡ counts (1 + followers a) (take (1 + followers a) (part o at end))
@@ -197,30 +218,30 @@ module _ (o : List ℕ) (at end : ℕ) (g : at < end) (h : end ≤ length o) whe
       let next : at + 1 + 1 ≡ end = omega arith in
       rw (part-more o end h at g, part-more o end h (at + 1) (omega arith), next, part_none o end)
 
-  pub spells_one : {r : ℕ} → a < 128 → r ≡ counts 1 (a ∷ []) → Spells o at end r
-  spells_one {r} q e = spells 1 r _ (follow_one a q) front-one e (omega (arith, counts-most 1 (a ∷ [])))
+  pub spells_one : {r : Option ℕ} → a < 128 → r ≡ counts 1 (a ∷ []) → Spells o at end r
+  spells_one {r} q e = spells 1 r _ (follow_one a q) front-one e (rw e (counts-within 1 (a ∷ []) at end (omega arith) (omega arith)))
 
-  pub spells-two : {r : ℕ} → 128 ≤ a → a < 224 → at + 2 ≤ end → r ≡ counts 2 (a ∷ b ∷ []) → Spells o at end r
-  spells-two {r} p q w e = spells 2 r _ (follow-two a p q) (front-two w) e (omega (arith, counts-most 2 (a ∷ b ∷ [])))
+  pub spells-two : {r : Option ℕ} → 128 ≤ a → a < 224 → at + 2 ≤ end → r ≡ counts 2 (a ∷ b ∷ []) → Spells o at end r
+  spells-two {r} p q w e = spells 2 r _ (follow-two a p q) (front-two w) e (rw e (counts-within 2 (a ∷ b ∷ []) at end (omega arith) w))
 
-  pub spells-three : {r : ℕ} → 224 ≤ a → at + 3 ≤ end → r ≡ counts 3 (a ∷ b ∷ c ∷ []) → Spells o at end r
-  spells-three {r} q w e = spells 3 r _ (follow-three a q) (front-three w) e (omega (arith, counts-most 3 (a ∷ b ∷ c ∷ [])))
+  pub spells-three : {r : Option ℕ} → 224 ≤ a → at + 3 ≤ end → r ≡ counts 3 (a ∷ b ∷ c ∷ []) → Spells o at end r
+  spells-three {r} q w e = spells 3 r _ (follow-three a q) (front-three w) e (rw e (counts-within 3 (a ∷ b ∷ c ∷ []) at end (omega arith) w))
 
   alone : 128 ≤ a → is_char (a ∷ []) ≡ true → ⊥
   alone p t = omega (arith, (one_told a t).1)
 
   -- two octets, or one where the second is cut off, that are no character
-  pub misspelt-two : 128 ≤ a → a < 224 → (at + 2 ≤ end → is_char (a ∷ b ∷ []) ≡ true → ⊥) → Spells o at end 0
+  pub misspelt-two : 128 ≤ a → a < 224 → (at + 2 ≤ end → is_char (a ∷ b ∷ []) ≡ true → ⊥) → Spells o at end None
   misspelt-two p q no = by (ltb (at + 1) end) refl
     where
-      by : (t : Bool) → ltb (at + 1) end ≡ t → Spells o at end 0
+      by : (t : Bool) → ltb (at + 1) end ≡ t → Spells o at end None
       by true e = spells-two p q (omega (arith, ltb-true _ end e)) (counts-no 2 _ (no (omega (arith, ltb-true _ end e))))
-      by false e = spells 2 0 _ (follow-two a p q) (cut-one 1 (omega (arith, ltb-false _ end e))) (counts-no 2 _ (alone p)) (omega arith)
+      by false e = spells 2 None _ (follow-two a p q) (cut-one 1 (omega (arith, ltb-false _ end e))) (counts-no 2 _ (alone p)) tt
 
-  pub misspelt-three : 224 ≤ a → (at + 3 ≤ end → is_char (a ∷ b ∷ c ∷ []) ≡ true → ⊥) → Spells o at end 0
+  pub misspelt-three : 224 ≤ a → (at + 3 ≤ end → is_char (a ∷ b ∷ c ∷ []) ≡ true → ⊥) → Spells o at end None
   misspelt-three q no = by (ltb (at + 1) end) refl (ltb (at + 2) end) refl
     where
-      by : (t : Bool) → ltb (at + 1) end ≡ t → (u : Bool) → ltb (at + 2) end ≡ u → Spells o at end 0
+      by : (t : Bool) → ltb (at + 1) end ≡ t → (u : Bool) → ltb (at + 2) end ≡ u → Spells o at end None
       by t e true f = spells-three q (omega (arith, ltb-true _ end f)) (counts-no 3 _ (no (omega (arith, ltb-true _ end f))))
-      by true e false f = spells 3 0 _ (follow-three a q) (cut-two (omega (arith, ltb-true _ end e, ltb-false _ end f))) (counts-no 3 _ λ t. omega (arith, (two-told a b t).high)) (omega arith)
-      by false e false f = spells 3 0 _ (follow-three a q) (cut-one 2 (omega (arith, ltb-false _ end e))) (counts-no 3 _ (alone (omega arith))) (omega arith)
+      by true e false f = spells 3 None _ (follow-three a q) (cut-two (omega (arith, ltb-true _ end e, ltb-false _ end f))) (counts-no 3 _ λ t. omega (arith, (two-told a b t).high)) tt
+      by false e false f = spells 3 None _ (follow-three a q) (cut-one 2 (omega (arith, ltb-false _ end e))) (counts-no 3 _ (alone (omega arith))) tt

@@ -7,35 +7,25 @@ use native.Mathlib.Omega.{arith}
 use native.Mathlib.Nat.{pow-suc, pow-le-pow_right, mul-le-mul_left, le_trans}
 use lib.ListN.{length, get_or}
 use lib.Count.{count_trailing_zeros}
-use lib.Dec.{ltb, leb, lit<, lit≤}
-use lib.IntN.{ℤ, pos, negsuc}
+use lib.Dec.{ltb, lit<, lit≤}
+use lib.IntN.{ℤ}
 use lib.Signed.{mag}
 use borrow.Author.Tests.{ltb-true, ltb-false, leb-true, eqb-false, not-true, lt-ltb, le-leb, ne_eqb}
 use Rattle.reading.specs.declared.Refusal.{Refusal}
-use Rattle.reading.specs.Reading.{Env, State, Out, got, stop, refusal, stand, follow, ◌>>=◌, return, require, either, here, octet}
-use Rattle.integer.specs.Packed.{wide16, wide32, wide64, further, sign, positive, integer}
-use Rattle.integer.specs.Answers.{out32, out64, Past32, Past64, Reads32, Reads64, Tail}
-use Rattle.integer.specs.declared.Read32.{Read32}
-use Rattle.integer.specs.declared.Read32.TheVariants.{Int32, Refused32}
-use Rattle.integer.specs.declared.Read64.{Read64}
-use Rattle.integer.specs.declared.Read64.TheVariants.{Int64, Refused64}
-use Rattle.integer.specs.declared.Magnitude.TheVariants.{Mag}
+use Rattle.reading.specs.Reading.{Env, got, refusal, stand}
+use Rattle.integer.specs.Packed.{wide32, sign, positive, integer}
+use Rattle.std.specs.Prelude.{Result, Ok, Err}
+use Rattle.integer.specs.Answers.{Reads, Tail}
 use mir.Syntax.{w32}
 use mir.Val.{to_z, of_z}
 use Rattle.integer.proofs.Signs.{returned}
-use Rattle.integer.proofs.Spelling.{mag-sign}
 use Rattle.integer.specs.Windows.{little, ends, sevens_at, Ending}
 use Rattle.integer.proofs.Windows.{ends-few, ends-first, ends-past}
 use Rattle.integer.proofs.Steps.{tail-joined, tail-ends, ending-after, further-last, sevens-below, found-mag, integer-end, integer-one, told}
-use Rattle.format.specs.Data.{within}
 use Rattle.scalar.specs.declared.Bits.{Bits}
 use Rattle.scalar.specs.declared.Bits.TheVariants.{Bits16, Bits32, Bits64}
-use Rattle.scalar.specs.declared.Passed.{Passed}
-use Rattle.scalar.specs.declared.Passed.TheVariants.{Past, Refused}
-use Rattle.scalar.specs.declared.Ran.TheVariants.{Onto, Halted}
 use Rattle.scalar.specs.Answers.{width_of, most_of, fitting, Passes, PastOf, Ahead, Runs}
 use Rattle.reading.proofs.Tests.{and_split}
-use Rattle.scalar.proofs.Tests.{leb-below, and-true}
 use Rattle.scalar.proofs.Passing.{passes-got, passes-stop}
 
 -- ---- the last octet says whether the integer fits
@@ -66,7 +56,7 @@ few-follow Bits64 i b h = omega arith
 
 module _ (w : Bits) {o : List ℕ} {at : ℕ} (room : at + 8 ≤ length o) where
   ends-after : (i : ℕ) → i < 7 → 128 ≤ get_or o at 0 → Ending o (at + 1) i → (get_or o (at + 1 + i) 0 ≡ 0 → ⊥) → suc i * 256 + get_or o (at + 1 + i) 0 ≤ most_of w
-      → Passes 1 o at (integer (width_of w)) (Past (at + 1 + i + 1))
+      → Passes 1 o at (integer (width_of w)) (Ok (at + 1 + i + 1))
   ends-after i few first end ne most = passes-got _ is (omega arith) (omega arith)
     where
       n : ℕ
@@ -78,84 +68,8 @@ module _ (w : Bits) {o : List ℕ} {at : ℕ} (room : at + 8 ≤ length o) where
       is : (e : Env) → integer (width_of w) (stand o at e) ≡ got (sign (positive (get_or o at 0)) n) (stand o (at + 1 + i + 1) e)
       is e = found-mag {w = width_of w} (tail-ends {bound = (width_of w).bound} (few-follow w i (get_or o (at + 1 + i) 0) most) (omega arith) end refl (rw (ne_eqb _ 0 ne, lt-ltb n (width_of w).bound fits))) (omega arith) first refl e
 
--- ---- a narrower width
-
--- what is read at a width is what is read at a wider one of as many octets, and then limited
-narrower : (b c more : ℕ) → b ≤ c → (s : State)
-    → integer (record { bound = b; more = more }) s ≡ (integer (record { bound = c; more = more }) >>= λ z. require (ltb (mag z) b) 3 s.at >>= λ _. return z) s
-unfolding integer ◌>>=◌ here require return
-narrower b c more h s = first (octet s)
-  where
-    then : (a n : ℕ) (x : State) (t u : Bool) → ltb n b ≡ t → ltb n c ≡ u
-        → follow (require t 3 s.at x) (λ _. return (sign (positive a) n)) ≡ follow (follow (require u 3 s.at x) (λ _. return (sign (positive a) n))) (λ z y. follow (require (ltb (mag z) b) 3 s.at y) (λ _. return z))
-    then a n x true true p q = rw (mag-sign (positive a) n, p, require)
-    then a n x true false p q = absurd (omega (arith, ltb-true n b p, ltb-false n c q))
-    then a n x false true p q = rw (mag-sign (positive a) n, p, require)
-    then a n x false false p q = refl
-
-    rest : (a : ℕ) (x : Out ℕ) → follow x (λ n y. follow (require (ltb n b) 3 s.at y) (λ _. return (sign (positive a) n)))
-        ≡ follow (follow x (λ n y. follow (require (ltb n c) 3 s.at y) (λ _. return (sign (positive a) n)))) (λ z y. follow (require (ltb (mag z) b) 3 s.at y) (λ _. return z))
-    rest a (got n x) = then a n x (ltb n b) (ltb n c) refl refl
-    rest a (stop r) = refl
-
-    first : (x : Out ℕ) → follow x (λ a y. follow (either (ltb a 128) (return (a % 64)) (further more s.at >>= λ m. return (a % 64 + 64 * m)) y) (λ n z. follow (require (ltb n b) 3 s.at z) (λ _. return (sign (positive a) n))))
-        ≡ follow (follow x (λ a y. follow (either (ltb a 128) (return (a % 64)) (further more s.at >>= λ m. return (a % 64 + 64 * m)) y) (λ n z. follow (require (ltb n c) 3 s.at z) (λ _. return (sign (positive a) n))))) (λ z y. follow (require (ltb (mag z) b) 3 s.at y) (λ _. return z))
-    first (got a y) = rest a (either (ltb a 128) (return (a % 64)) (further more s.at >>= λ m. return (a % 64 + 64 * m)) y)
-    first (stop r) = refl
-
--- ---- as an integer was read
-
-within-small : (v : ℤ) → within (negsuc 32767) (pos 32767) v ≡ ltb (mag v) (2 ^ 15)
-within-small (pos n) = leb-below n 32767
-within-small (negsuc n) = and-true (leb n 32767) ∙ leb-below n 32767
-
-module _ {o : List ℕ} {at next : ℕ} {v : ℤ} {r : Read32} (h : Reads32 o at r) (q : r ≡ Int32 next v) where
-  pub got32 : (e : Env) → integer wide32 (stand o at e) ≡ got v (stand o next e)
-  got32 e = sym (subst (λ (r : Read32). out32 o e r ≡ integer wide32 (stand o at e)) q (h.same e))
-
-  pub next32 : (at < next) × (next ≤ length o)
-  next32 = subst (Past32 o at) q h.past
-
-  pub past32-got : Passes 1 o at (integer wide32) (Past next)
-  past32-got = passes-got v got32 (omega (arith, next32.0)) next32.1
-
-  -- 01: "For int16 the integer is read as 32-bit and then limited to -32,768 to 32,767."
-  limited : (t : Bool) → within (negsuc 32767) (pos 32767) v ≡ t → (e : Env) → integer wide16 (stand o at e) ≡ cond t (got v (stand o next e)) (stop (refusal 3 at))
-  unfolding ◌>>=◌ require return stand
-  limited t w e = narrower (2 ^ 15) (2 ^ 31) 4 (lit≤ tt) (stand o at e) ∙ rw (got32 e, ← within-small v, w) (by t)
-    where
-      by : (t : Bool) → follow (require t 3 at (stand o next e)) (λ _. return v) ≡ cond t (got v (stand o next e)) (stop (refusal 3 at))
-      by true = refl
-      by false = refl
-
-  pub past16-got : within (negsuc 32767) (pos 32767) v ≡ true → Passes 1 o at (integer wide16) (Past next)
-  past16-got w = passes-got v (limited true w) (omega (arith, next32.0)) next32.1
-
-  pub past16-over : within (negsuc 32767) (pos 32767) v ≡ false → Passes 1 o at (integer wide16) (Refused (refusal 3 at))
-  past16-over w = passes-stop (limited false w)
-
-module _ {o : List ℕ} {at : ℕ} {x : Refusal} {r : Read32} (h : Reads32 o at r) (q : r ≡ Refused32 x) where
-  pub stop32 : (e : Env) → integer wide32 (stand o at e) ≡ stop x
-  stop32 e = sym (subst (λ (r : Read32). out32 o e r ≡ integer wide32 (stand o at e)) q (h.same e))
-
-  pub past32-stop : Passes 1 o at (integer wide32) (Refused x)
-  past32-stop = passes-stop stop32
-
-  pub past16-stop : Passes 1 o at (integer wide16) (Refused x)
-  unfolding ◌>>=◌ stand
-  past16-stop = passes-stop λ e. narrower (2 ^ 15) (2 ^ 31) 4 (lit≤ tt) (stand o at e) ∙ rw (stop32 e)
-
-module _ {o : List ℕ} {at : ℕ} {r : Read64} (h : Reads64 o at r) where
-  pub past64-got : {next : ℕ} {v : ℤ} → r ≡ Int64 next v → Passes 1 o at (integer wide64) (Past next)
-  past64-got {next} {v} q =
-      let past = subst (Past64 o at) q h.past in
-      passes-got v (λ e. sym (subst (λ (r : Read64). out64 o e r ≡ integer wide64 (stand o at e)) q (h.same e))) (omega (arith, past.0)) past.1
-
-  pub past64-stop : {x : Refusal} → r ≡ Refused64 x → Passes 1 o at (integer wide64) (Refused x)
-  past64-stop q = passes-stop λ e. sym (subst (λ (r : Read64). out64 o e r ≡ integer wide64 (stand o at e)) q (h.same e))
-
 -- the width that is asked for
-pub of_width : {w u : Bits} {o : List ℕ} {at : ℕ} {r : Passed} → w ≡ u → Passes 1 o at (integer (width_of u)) r → Passes 1 o at (integer (width_of w)) r
+pub of_width : {w u : Bits} {o : List ℕ} {at : ℕ} {r : Result ℕ Refusal} → w ≡ u → Passes 1 o at (integer (width_of u)) r → Passes 1 o at (integer (width_of w)) r
 of_width {o} {at} {r} q h = subst (λ (w : Bits). Passes 1 o at (integer (width_of w)) r) (sym q) h
 
 pub bound-is : (w : Bits) → 64 ≤ (width_of w).bound
@@ -163,15 +77,15 @@ bound-is Bits16 = lit≤ tt
 bound-is Bits32 = lit≤ tt
 bound-is Bits64 = lit≤ tt
 
-pub past_end : (w : Bits) {o : List ℕ} {at : ℕ} → length o ≤ at → Passes 1 o at (integer (width_of w)) (Refused (refusal 1 at))
+pub past_end : (w : Bits) {o : List ℕ} {at : ℕ} → length o ≤ at → Passes 1 o at (integer (width_of w)) (Err (refusal 1 at))
 past_end w {o} {at} h = passes-stop λ e. integer-end (width_of w) o at e h
 
-pub past_one : (w : Bits) {o : List ℕ} {at : ℕ} → at < length o → get_or o at 0 < 128 → Passes 1 o at (integer (width_of w)) (Past (at + 1))
+pub past_one : (w : Bits) {o : List ℕ} {at : ℕ} → at < length o → get_or o at 0 < 128 → Passes 1 o at (integer (width_of w)) (Ok (at + 1))
 past_one w {o} {at} h g = passes-got _ (λ e. integer-one (width_of w) o at e (bound-is w) h g) (omega arith) (omega arith)
 
 -- an integer whose last octet is k octets after its first
 ends-pass : (w : Bits) {o : List ℕ} {at : ℕ} (k : ℕ) → at + 8 ≤ length o → k < 8 → Ending o at k → fitting w k (get_or o (at + k) 0) ≡ true
-    → Passes 1 o at (integer (width_of w)) (Past (at + k + 1))
+    → Passes 1 o at (integer (width_of w)) (Ok (at + k + 1))
 ends-pass w {o} {at} zero room few end t =
     let here : at + 0 ≡ at = omega arith in
     rw here (past_one w (omega arith) (rw here at end.off))
@@ -183,7 +97,7 @@ ends-pass w {o} {at} (suc i) room few end t =
 
 -- the same by eight octets at once
 pub word-passes : (w : Bits) (o : List ℕ) (at : ℕ) {e k : ℕ} {t : Bool} → at + 8 ≤ length o → ((i : ℕ) → get_or o i 0 < 256) → e ≡ ends 8 (little 8 o at) → (e ≡ 0 → ⊥)
-    → k ≡ count_trailing_zeros 64 e / 8 → t ≡ fitting w k (get_or o (at + k) 0) → t ≡ true → Passes 1 o at (integer (width_of w)) (Past (at + 1 + k))
+    → k ≡ count_trailing_zeros 64 e / 8 → t ≡ fitting w k (get_or o (at + k) 0) → t ≡ true → Passes 1 o at (integer (width_of w)) (Ok (at + 1 + k))
 word-passes w o at {e} {k} room small is ne first t on =
     let past : at + 1 + k ≡ at + k + 1 = omega arith in
     rw past (ends-pass w k room (ends-few o at small refl is ne first) (ends-first o at small refl is ne first) (sym t ∙ on))
@@ -200,22 +114,22 @@ ahead : {o : List ℕ} {at near far : ℕ} (t : Bool) → near ≡ cond t (ends 
 ahead true n f = record { known = λ ne. (n, f) }
 ahead false n f = record { known = λ ne. absurd (ne n) }
 
-module _ (w : Bits) {o : List ℕ} {at : ℕ} {r : Passed} (h : Passes 1 o at (integer (width_of w)) r) where
-  pub next-within : {next : ℕ} → r ≡ Past next → next ≤ length o
+module _ (w : Bits) {o : List ℕ} {at : ℕ} {r : Result ℕ Refusal} (h : Passes 1 o at (integer (width_of w)) r) where
+  pub next-within : {next : ℕ} → r ≡ Ok next → next ≤ length o
   next-within q = (subst (PastOf 1 o at) q h.past).1
 
-  pub runs-got : {next near far : ℕ} (t : Bool) → r ≡ Past next → near ≡ cond t (ends 8 (little 8 o next)) 0 → far ≡ cond t (ends 8 (little 8 o (next + 8))) 0
-      → Runs w o at (Onto next near far)
+  pub runs-got : {next near far : ℕ} (t : Bool) → r ≡ Ok next → near ≡ cond t (ends 8 (little 8 o next)) 0 → far ≡ cond t (ends 8 (little 8 o (next + 8))) 0
+      → Runs w o at (Ok (next, near, far))
   runs-got t q n f = record { is = (subst (Passes 1 o at (integer (width_of w))) q h, ahead t n f) }
 
-  pub runs-stop : {x : Refusal} → r ≡ Refused x → Runs w o at (Halted x)
+  pub runs-stop : {x : Refusal} → r ≡ Err x → Runs w o at (Err x)
   runs-stop q = record { is = subst (Passes 1 o at (integer (width_of w))) q h }
 
 -- by the ends of the sixteen octets ahead
 pub runs_on : (w : Bits) (o : List ℕ) (at : ℕ) {near far most r s : ℕ} (k : ℕ) → at + 24 ≤ length o → ((i : ℕ) → get_or o i 0 < 256) → Ahead o at near far → (near ≡ 0 → ⊥)
     → k ≡ count_trailing_zeros 64 near / 8 → most ≡ most_of w → k ≤ get_or o (at + k) 0 * 8 → k * 256 + get_or o (at + k) 0 ≤ most
     → r ≡ near / 2 ^ (count_trailing_zeros 64 near + 1) + far % 2 ^ (count_trailing_zeros 64 near + 1) * 2 ^ (63 - count_trailing_zeros 64 near) → s ≡ ends 8 (little 8 o (at + k + 9))
-    → Runs w o at (Onto (at + k + 1) r s)
+    → Runs w o at (Ok (at + k + 1, r, s))
 runs_on w o at k room small a ne first q g h er es =
     let known = a.known ne in
     let past : at + 1 + k ≡ at + k + 1 = omega arith in
@@ -226,16 +140,16 @@ runs_on w o at k room small a ne first q g h er es =
 -- ---- an integer of one or two octets
 
 module _ {o : List ℕ} {at : ℕ} (h : at < length o) {z : ℤ} where
-  pub reads-one : mag z < 2 ^ 31 → get_or o at 0 < 128 → z ≡ sign (positive (get_or o at 0)) (get_or o at 0 % 64) → Reads32 o at (Int32 (at + 1) (to_z w32 (of_z w32 z)))
+  pub reads-one : mag z < 2 ^ 31 → get_or o at 0 < 128 → z ≡ sign (positive (get_or o at 0)) (get_or o at 0 % 64) → Reads (λ z. z) wide32 o at (Ok (at + 1, to_z w32 (of_z w32 z)))
   reads-one f g q = record { same = λ e. told (returned w32 f q) (integer-one wide32 o at e (lit≤ tt) h g); past = (omega arith, omega arith) }
 
   pub reads_two : mag z < 2 ^ 31 → 128 ≤ get_or o at 0 → at + 2 ≤ length o → 0 < get_or o (at + 1) 0 → get_or o (at + 1) 0 < 128
-      → z ≡ sign (positive (get_or o at 0)) (get_or o at 0 % 64 + 64 * get_or o (at + 1) 0) → Reads32 o at (Int32 (at + 2) (to_z w32 (of_z w32 z)))
+      → z ≡ sign (positive (get_or o at 0)) (get_or o at 0 % 64 + 64 * get_or o (at + 1) 0) → Reads (λ z. z) wide32 o at (Ok (at + 2, to_z w32 (of_z w32 z)))
   reads_two f g w low high q = record { same = λ e. told (returned w32 f q) (found-mag {w = wide32} tail h g refl e); past = (omega arith, w) }
     where
       next : at + 1 + 1 ≡ at + 2
       next = omega arith
 
-      tail : Tail 4 (2 ^ 31) o at (get_or o at 0) (Mag (at + 2) (get_or o at 0 % 64 + 64 * get_or o (at + 1) 0))
+      tail : Tail 4 (2 ^ 31) o at (get_or o at 0) (Ok (at + 2, get_or o at 0 % 64 + 64 * get_or o (at + 1) 0))
       tail = tail-joined 4 (2 ^ 31) o at (get_or o at 0) (get_or o (at + 1) 0) (get_or o (at + 1) 0) (at + 2) _ (λ e. rw next at (further-last o (at + 1) e 3 at (omega arith) high)) (omega arith) w
           (rw (ne_eqb (get_or o (at + 1) 0) 0 (λ z. omega arith), lt-ltb (get_or o at 0 % 64 + 64 * get_or o (at + 1) 0) (2 ^ 31) (omega arith)))

@@ -2,108 +2,120 @@
 use mathlib.Core.Path.{◌≡◌, refl, sym, ap, subst, ◌∙◌}
 use mathlib.Core.Bool.{Bool, true, false, cond, ◌&&◌}
 use mathlib.Core.List.{List, [], ◌∷◌, ◌++◌}
-use Prim.Native.Nat.{ℕ, zero, suc, ◌+◌, ◌^◌, ◌<◌, ◌≤◌}
+use Prim.Native.Nat.{ℕ, zero, suc, ◌+◌, ◌-◌, ◌^◌, ◌<◌, ◌≤◌}
 use native.Mathlib.Omega.{arith}
-use lib.ListN.{length, drop}
+use lib.ListN.{length, take, drop, set}
+use Rattle.std.proofs.lemmas.List.{append-nil, append_assoc, get_or-set_same, get_or-set_other, length-set, take_all, take_more_set}
 use lib.IntN.{ℤ, pos, negsuc}
 use lib.Signed.{mag, le_z}
-use lib.Dec.{leb}
-use borrow.Author.Tests.{le-leb, leb-true, leb-false}
+use lib.Dec.{leb, ltb}
+use borrow.Author.Tests.{ltb-true, ltb-false, le-leb, leb-true, leb-false}
 use mir.Syntax.{w32}
 use mir.ValLaws.{to_z-of_z}
 use Rattle.reading.specs.declared.Refusal.{Refusal}
 use Rattle.reading.specs.Reading.{Env, State, Out, got, stop, Reader, refusal, stand, follow, ◌>>=◌, return, require, either, here}
 use Rattle.integer.specs.Packed.{wide32, integer}
-use Rattle.integer.specs.Answers.{Reads32}
-use Rattle.integer.specs.declared.Read32.{Read32}
-use Rattle.integer.specs.declared.Read32.TheVariants.{Int32, Refused32}
+use Rattle.std.specs.Prelude.{Result, Ok, Err}
+use Rattle.integer.specs.Answers.{Reads}
 use Rattle.format.specs.Types.{date, time, dateTime}
-use Rattle.format.specs.Data.{within, eq_z, integers, time_fits, date_fits, fits, offset, moment}
-use Rattle.scalar.specs.declared.Two.{Two}
-use Rattle.scalar.specs.declared.Two.TheVariants.{Both, Cut2}
-use Rattle.scalar.specs.declared.Three.{Three}
-use Rattle.scalar.specs.declared.Three.TheVariants.{All, Cut3}
-use Rattle.scalar.specs.declared.Moment.{Moment}
-use Rattle.scalar.specs.declared.Moment.TheVariants.{Parts, Unfit}
+use Rattle.format.specs.Data.{within, eq_z, integers, time_fits, date_fits, fits, offset, part, moment}
 use Rattle.scalar.specs.declared.Which.{Which}
-use Rattle.scalar.specs.declared.Which.TheVariants.{Date, Time, DateTime}
+use Rattle.scalar.specs.declared.Which.TheVariants.{Time}
 use Rattle.scalar.specs.Answers.{MomentPast, Passing}
-use Rattle.scalar.specs.Moments.{out_two, out_three, PastTwo, PastThree, ReadsTwo, ReadsThree, clock_fits, count_of, offsets, clock, parts_of, is_time, is_clocked}
-use Rattle.scalar.proofs.Integers.{got32, next32, stop32}
+use Rattle.scalar.specs.Moments.{out_ints, PastInts, ReadsInts, clock_fits, count_of, offsets, clock, parts_of}
+use Rattle.scalar.proofs.Passing.{read-got, read-past, read-stop}
 use Rattle.scalar.proofs.Signed.{held}
 use Rattle.reading.proofs.Tests.{no, and_split}
 use Rattle.scalar.proofs.Tests.{and-true, and_comm, two-more}
 
--- ---- two and three integers
+-- ---- integers, one by one
 
-kept : (v : ℤ) → mag v < 2 ^ 31 → held v ≡ v
+pub kept : (v : ℤ) → mag v < 2 ^ 31 → held v ≡ v
 kept v h = to_z-of_z w32 v (record { sfits = h })
 
-ints-more : (n : ℕ) (s s' : State) (z : ℤ) → integer wide32 s ≡ got z s' → integers (suc n) s ≡ follow (integers n s') (λ l. return (z ∷ l))
+abbrev onto : List ℤ → ℕ → State → Out (List ℤ)
+onto l n s = follow (integers n s) (λ m. return (l ++ m))
+
+onto-more : (l : List ℤ) (n : ℕ) (s s' : State) (z : ℤ) → integer wide32 s ≡ got z s' → onto l (suc n) s ≡ onto (l ++ z ∷ []) n s'
+unfolding integers ◌>>=◌ return
+onto-more l n s s' z h = rw h (by (integers n s'))
+  where
+    by : (x : Out (List ℤ)) → follow (follow x (λ m. return (z ∷ m))) (λ m. return (l ++ m)) ≡ follow x (λ m. return ((l ++ z ∷ []) ++ m))
+    by (got m t) = ap (λ (k : List ℤ). got k t) (sym (append_assoc l (z ∷ []) m))
+    by (stop r) = refl
+
+onto-stop : (l : List ℤ) (n : ℕ) (s : State) (r : Refusal) → integer wide32 s ≡ stop r → onto l (suc n) s ≡ stop r
 unfolding integers ◌>>=◌
-ints-more n s s' z h = rw h
+onto-stop l n s r h = rw h
 
-ints-stop : (n : ℕ) (s : State) (r : Refusal) → integer wide32 s ≡ stop r → integers (suc n) s ≡ stop r
-unfolding integers ◌>>=◌
-ints-stop n s r h = rw h
+onto-none : (n : ℕ) (s : State) → integers n s ≡ onto [] n s
+unfolding return
+onto-none n s = by (integers n s)
+  where
+    by : (x : Out (List ℤ)) → x ≡ follow x (λ m s. got m s)
+    by (got m t) = refl
+    by (stop r) = refl
 
-module _ {o : List ℕ} {at : ℕ} {r1 : Read32} (h1 : Reads32 o at r1) where
-  module _ {x : Refusal} (q1 : r1 ≡ Refused32 x) where
-    pub two-cut : ReadsTwo o at (Cut2 x)
-    two-cut = record { same = λ e. sym (ints-stop _ _ x (stop32 h1 q1 e)); past = tt }
+onto-all : (l : List ℤ) (s : State) → onto l 0 s ≡ got l s
+unfolding integers return
+onto-all l s = ap (λ (k : List ℤ). got k s) (append-nil l)
 
-    pub three-cut : ReadsThree o at (Cut3 x)
-    three-cut = record { same = λ e. sym (ints-stop _ _ x (stop32 h1 q1 e)); past = tt }
+-- the first k of n integers are read, and stand first in l
+pub record Turn (n : ℕ) (o : List ℕ) (at k next : ℕ) (l : List ℤ) : Type 0 where
+  pub same : (e : Env) → integers n (stand o at e) ≡ onto (take k l) (n - k) (stand o next e)
+  pub past : at + k ≤ next
+  pub within : 0 < k → next ≤ length o
+  pub some : k ≤ n
+  pub room : length l ≡ n
+  pub small : (i : ℕ) → i < k → mag (part i l) < 2 ^ 31
 
-  module _ {at2 : ℕ} {a : ℤ} (q1 : r1 ≡ Int32 at2 a) {r2 : Read32} (h2 : Reads32 o at2 r2) where
-    module _ {x : Refusal} (q2 : r2 ≡ Refused32 x) where
-      pub two-cut-2 : ReadsTwo o at (Cut2 x)
-      two-cut-2 = record { same = λ e. sym (ints-more _ _ _ a (got32 h1 q1 e) ∙ rw (ints-stop 0 (stand o at2 e) x (stop32 h2 q2 e))); past = tt }
+pub turn-first : (n : ℕ) (o : List ℕ) (at : ℕ) (l : List ℤ) → length l ≡ n → Turn n o at 0 at l
+turn-first n o at l h = let all : n - 0 ≡ n = omega arith in record { same = λ e. rw all (onto-none n (stand o at e)); past = omega arith; within = λ k. absurd (omega arith); some = omega arith; room = h; small = λ i k. absurd (omega arith) }
 
-      pub three-cut-2 : ReadsThree o at (Cut3 x)
-      three-cut-2 = record { same = λ e. sym (ints-more _ _ _ a (got32 h1 q1 e) ∙ rw (ints-stop 1 (stand o at2 e) x (stop32 h2 q2 e))); past = tt }
+module _ {n : ℕ} {o : List ℕ} {at k next : ℕ} {l : List ℤ} (t : Turn n o at k next l) where
+  module _ (g : k < n) {r : Result (ℕ × ℤ) Refusal} (h : Reads (λ z. z) wide32 o next r) where
+    left : n - k ≡ suc (n - (k + 1))
+    left = omega arith
 
-    module _ {at3 : ℕ} {b : ℤ} (q2 : r2 ≡ Int32 at3 b) where
-      pub two-got : mag a < 2 ^ 31 → mag b < 2 ^ 31 → ReadsTwo o at (Both at3 (held a) (held b))
-      unfolding integers return
-      two-got fa fb = rw (kept a fa, kept b fb) (record {
-        same = λ e. sym (ints-more 1 (stand o at e) (stand o at2 e) a (got32 h1 q1 e) ∙ rw (ints-more 0 (stand o at2 e) (stand o at3 e) b (got32 h2 q2 e)));
-        past = let n1 = next32 h1 q1 in let n2 = next32 h2 q2 in (omega arith, n2.1);
-      })
+    pub turn-stop : {x : Refusal} → r ≡ Err x → ReadsInts n o at (Err x)
+    turn-stop {x} q = record { same = λ e. sym (t.same e ∙ rw left (onto-stop (take k l) (n - (k + 1)) (stand o next e) x (read-stop h q e))); past = tt }
 
-      module _ {r3 : Read32} (h3 : Reads32 o at3 r3) where
-        pub three-cut-3 : {x : Refusal} → r3 ≡ Refused32 x → ReadsThree o at (Cut3 x)
-        three-cut-3 {x} q3 = record { same = λ e. sym (ints-more 2 (stand o at e) (stand o at2 e) a (got32 h1 q1 e) ∙ rw (ints-more 1 (stand o at2 e) (stand o at3 e) b (got32 h2 q2 e), ints-stop 0 (stand o at3 e) x (stop32 h3 q3 e))); past = tt }
+    put-small : (z : ℤ) → mag z < 2 ^ 31 → (i : ℕ) → i < k + 1 → (b : Bool) → ltb i k ≡ b → mag (part i (set l k z)) < 2 ^ 31
+    put-small z f i u true b = rw (get_or-set_other l k i z (pos 0) (λ e. omega (arith, ltb-true i k b))) (t.small i (ltb-true i k b))
+    put-small z f i u false b = let is : i ≡ k = omega (arith, ltb-false i k b) in rw (is, get_or-set_same l k z (pos 0) (omega (arith, t.room))) f
 
-        pub three-got : {at4 : ℕ} {c : ℤ} → r3 ≡ Int32 at4 c → mag a < 2 ^ 31 → mag b < 2 ^ 31 → mag c < 2 ^ 31 → ReadsThree o at (All at4 (held a) (held b) (held c))
-        unfolding integers return
-        three-got {at4} {c} q3 fa fb fc = rw (kept a fa, kept b fb, kept c fc) (record {
-          same = λ e. sym (ints-more 2 (stand o at e) (stand o at2 e) a (got32 h1 q1 e) ∙ rw (ints-more 1 (stand o at2 e) (stand o at3 e) b (got32 h2 q2 e), ints-more 0 (stand o at3 e) (stand o at4 e) c (got32 h3 q3 e)));
-          past = let n1 = next32 h1 q1 in let n2 = next32 h2 q2 in let n3 = next32 h3 q3 in (omega arith, n3.1);
-        })
+    pub turn-again : {to : ℕ} {z : ℤ} → mag z < 2 ^ 31 → r ≡ Ok (to, z) → Turn n o at (k + 1) to (set l k z)
+    turn-again {to} {z} f q =
+        let w = read-past h q in
+        record {
+          same = λ e. t.same e ∙ rw left (onto-more (take k l) (n - (k + 1)) (stand o next e) (stand o to e) z (read-got h q e)) ∙ ap (λ (m : List ℤ). onto m (n - (k + 1)) (stand o to e)) (sym (take_more_set l k z (omega (arith, t.room))));
+          past = omega (arith, t.past, w.0);
+          within = λ i. w.1;
+          some = omega arith;
+          room = length-set l k z ∙ t.room;
+          small = λ i u. put-small z f i u (ltb i k) refl;
+        }
+
+  pub turn-last : 0 < n → n ≤ k → ReadsInts n o at (Ok (next, l))
+  turn-last some g =
+      let none : n - k ≡ 0 = omega arith in
+      let whole : take k l ≡ l = take_all k l (omega (arith, t.room)) in
+      record { same = λ e. sym (t.same e ∙ rw (none, whole) (onto-all l (stand o next e))); past = (omega (arith, t.past), t.within (omega arith), t.room, λ i u. t.small i (omega arith)) }
 
 -- as they were read
-module _ {o : List ℕ} {at : ℕ} {r : Two} (h : ReadsTwo o at r) where
-  stop-two : {x : Refusal} → r ≡ Cut2 x → (e : Env) → integers 2 (stand o at e) ≡ stop x
-  stop-two q e = sym (subst (λ (r : Two). out_two o e r ≡ integers 2 (stand o at e)) q (h.same e))
+module _ {n : ℕ} {o : List ℕ} {at : ℕ} {r : Result (ℕ × List ℤ) Refusal} (h : ReadsInts n o at r) where
+  stop-ints : {x : Refusal} → r ≡ Err x → (e : Env) → integers n (stand o at e) ≡ stop x
+  stop-ints q e = sym (subst (λ (r : Result (ℕ × List ℤ) Refusal). out_ints o e r ≡ integers n (stand o at e)) q (h.same e))
 
-  module _ {next : ℕ} {a b : ℤ} (q : r ≡ Both next a b) where
-    got-two : (e : Env) → integers 2 (stand o at e) ≡ got (a ∷ b ∷ []) (stand o next e)
-    got-two e = sym (subst (λ (r : Two). out_two o e r ≡ integers 2 (stand o at e)) q (h.same e))
+  module _ {next : ℕ} {l : List ℤ} (q : r ≡ Ok (next, l)) where
+    got-ints : (e : Env) → integers n (stand o at e) ≡ got l (stand o next e)
+    got-ints e = sym (subst (λ (r : Result (ℕ × List ℤ) Refusal). out_ints o e r ≡ integers n (stand o at e)) q (h.same e))
 
-    next-two : (at < next) × (next ≤ length o)
-    next-two = subst (PastTwo o at) q h.past
+    next-ints : (at < next) × (next ≤ length o)
+    next-ints = let p = subst (PastInts n o at) q h.past in (p.0, p.1)
 
-module _ {o : List ℕ} {at : ℕ} {r : Three} (h : ReadsThree o at r) where
-  stop-three : {x : Refusal} → r ≡ Cut3 x → (e : Env) → integers 3 (stand o at e) ≡ stop x
-  stop-three q e = sym (subst (λ (r : Three). out_three o e r ≡ integers 3 (stand o at e)) q (h.same e))
-
-  module _ {next : ℕ} {a b c : ℤ} (q : r ≡ All next a b c) where
-    got-three : (e : Env) → integers 3 (stand o at e) ≡ got (a ∷ b ∷ c ∷ []) (stand o next e)
-    got-three e = sym (subst (λ (r : Three). out_three o e r ≡ integers 3 (stand o at e)) q (h.same e))
-
-    next-three : (at < next) × (next ≤ length o)
-    next-three = subst (PastThree o at) q h.past
+    pub parts-small : (length l ≡ n) × ((i : ℕ) → i < n → mag (part i l) < 2 ^ 31)
+    parts-small = let p = subst (PastInts n o at) q h.past in (p.2, p.3)
 
 -- ---- some integers, then others
 
@@ -154,17 +166,17 @@ offsets-got : (ok : Bool) (p n : ℕ) (s s' : State) (a b : ℤ) → integers 2 
 unfolding offsets ◌>>=◌
 offsets-got ok p n s s' a b h = rw h (tested _ p n s')
 
-module _ (ok : Bool) (p n : ℕ) {o : List ℕ} {at : ℕ} {r : Two} (h : ReadsTwo o at r) where
-  pub offsets-cut : {x : Refusal} → r ≡ Cut2 x → Passing o at n (offsets ok p n) (Unfit x)
+module _ (ok : Bool) (p n : ℕ) {o : List ℕ} {at : ℕ} {r : Result (ℕ × List ℤ) Refusal} (h : ReadsInts 2 o at r) where
+  pub offsets-cut : {x : Refusal} → r ≡ Err x → Passing o at n (offsets ok p n) (Err x)
   unfolding offsets ◌>>=◌
-  offsets-cut q = record { same = λ e. sym (rw (stop-two h q e)); past = tt }
+  offsets-cut q = record { same = λ e. sym (rw (stop-ints h q e)); past = tt }
 
-  module _ {next : ℕ} {a b : ℤ} (q : r ≡ Both next a b) where
-    pub offsets-fit : ok && within (negsuc 17) (pos 18) a && within (pos 0) (pos 59) b ≡ true → Passing o at n (offsets ok p n) (Parts next n)
-    offsets-fit t = record { same = λ e. sym (offsets-got ok p n _ _ a b (got-two h q e) ∙ rw t); past = let w = next-two h q in (w.0, w.1, omega arith) }
+  module _ {next : ℕ} {a b : ℤ} (q : r ≡ Ok (next, a ∷ b ∷ [])) where
+    pub offsets-fit : ok && within (negsuc 17) (pos 18) a && within (pos 0) (pos 59) b ≡ true → Passing o at n (offsets ok p n) (Ok (next, n))
+    offsets-fit t = record { same = λ e. sym (offsets-got ok p n _ _ a b (got-ints h q e) ∙ rw t); past = let w = next-ints h q in (w.0, w.1, omega arith) }
 
-    pub offsets-unfit : ok && within (negsuc 17) (pos 18) a && within (pos 0) (pos 59) b ≡ false → Passing o at n (offsets ok p n) (Unfit (refusal 7 p))
-    offsets-unfit t = record { same = λ e. sym (offsets-got ok p n _ _ a b (got-two h q e) ∙ rw t); past = tt }
+    pub offsets-unfit : ok && within (negsuc 17) (pos 18) a && within (pos 0) (pos 59) b ≡ false → Passing o at n (offsets ok p n) (Err (refusal 7 p))
+    offsets-unfit t = record { same = λ e. sym (offsets-got ok p n _ _ a b (got-ints h q e) ∙ rw t); past = tt }
 
 -- ---- a time
 
@@ -255,41 +267,30 @@ pub date-told : (y m d : ℤ) {t : Bool} → mag y < 2 ^ 31 → mag m < 2 ^ 31 �
 date-told y m d a b c e = rw (kept y a, kept m b, kept d c) at e
 
 -- what is passed further on
-on-from : (o : List ℕ) (most : ℕ) {at next : ℕ} (r : Moment) → at < next → MomentPast o next most r → MomentPast o at most r
-on-from o most (Parts to n) h p = (omega (arith, p.0), p.1, p.2)
-on-from o most (Unfit x) h p = tt
+on-from : (o : List ℕ) (most : ℕ) {at next : ℕ} (r : Result (ℕ × ℕ) Refusal) → at < next → MomentPast o next most r → MomentPast o at most r
+on-from o most (Ok (to, n)) h p = (omega (arith, p.0), p.1, p.2)
+on-from o most (Err x) h p = tt
 
-module _ (ok : Bool) (p n : ℕ) {o : List ℕ} {at : ℕ} {r3 : Three} (h3 : ReadsThree o at r3) where
-  pub clock-cut : {y : Refusal} → r3 ≡ Cut3 y → Passing o at (n + 7) (clock ok p n) (Unfit y)
-  clock-cut {y} q3 = record { same = λ e. sym (clock-stop ok p n _ (stand o at e) y (join-stop 2 _ y (stop-three h3 q3 e))); past = tt }
+module _ (ok : Bool) (p n : ℕ) {o : List ℕ} {at : ℕ} {r5 : Result (ℕ × List ℤ) Refusal} (h5 : ReadsInts 5 o at r5) where
+  pub clock-cut : {y : Refusal} → r5 ≡ Err y → Passing o at (n + 7) (clock ok p n) (Err y)
+  clock-cut {y} q = record { same = λ e. sym (clock-stop ok p n _ (stand o at e) y (stop-ints h5 q e)); past = tt }
 
-  module _ {at2 : ℕ} {h m x : ℤ} (q3 : r3 ≡ All at2 h m x) {r2 : Two} (h2 : ReadsTwo o at2 r2) where
-    pub clock-cut-2 : {y : Refusal} → r2 ≡ Cut2 y → Passing o at (n + 7) (clock ok p n) (Unfit y)
-    clock-cut-2 {y} q2 = record { same = λ e. sym (clock-stop ok p n _ (stand o at e) y (join-got 2 _ _ (h ∷ m ∷ x ∷ []) (got-three h3 q3 e) ∙ rw (stop-two h2 q2 e))); past = tt }
+  module _ {next : ℕ} {h m x f z : ℤ} (q5 : r5 ≡ Ok (next, h ∷ m ∷ x ∷ f ∷ z ∷ [])) {t : Bool} (good : t ≡ ok && clock_fits h m x f) where
+    pub clock-offset : {r : Result (ℕ × ℕ) Refusal} → within (pos 2) (pos 2) z ≡ true → Passing o next (n + 7) (offsets t p (n + 7)) r → Passing o at (n + 7) (clock ok p n) r
+    clock-offset {r} w k = record {
+      same = λ e. k.same e ∙ ap (λ (b : Bool). offsets b p (n + 7) (stand o next e)) good ∙ sym (clock-zone ok p n _ (stand o next e) h m x f z (got-ints h5 q5 e) (and_comm (le_z z (pos 2)) (le_z (pos 2) z) ∙ w));
+      past = on-from o (n + 7) r (next-ints h5 q5).0 k.past;
+    }
 
-    module _ {next : ℕ} {f z : ℤ} (q2 : r2 ≡ Both next f z) {t : Bool} (good : t ≡ ok && clock_fits h m x f) where
-      five : (e : Env) → integers 5 (stand o at e) ≡ got (h ∷ m ∷ x ∷ f ∷ z ∷ []) (stand o next e)
-      unfolding return
-      five e = join-got 2 _ _ (h ∷ m ∷ x ∷ []) (got-three h3 q3 e) ∙ rw (got-two h2 q2 e)
+    module _ {u : Bool} (w : within (pos 2) (pos 2) z ≡ false) (q : u ≡ t && within (pos 0) (pos 1) z) where
+      plain : (e : Env) → clock ok p n (stand o at e) ≡ cond u (got (n + 5) (stand o next e)) (stop (refusal 7 p))
+      plain e = clock-plain ok p n _ (stand o next e) h m x f z (got-ints h5 q5 e) (and_comm (le_z z (pos 2)) (le_z (pos 2) z) ∙ w) ∙ rw (q, good)
 
-      past : (at < next) × (next ≤ length o)
-      past = let a = next-three h3 q3 in let b = next-two h2 q2 in (omega arith, b.1)
+      pub clock-fit : u ≡ true → Passing o at (n + 7) (clock ok p n) (Ok (next, n + 5))
+      clock-fit v = record { same = λ e. sym (plain e ∙ rw v); past = let w = next-ints h5 q5 in (w.0, w.1, omega arith) }
 
-      pub clock-offset : {r : Moment} → within (pos 2) (pos 2) z ≡ true → Passing o next (n + 7) (offsets t p (n + 7)) r → Passing o at (n + 7) (clock ok p n) r
-      clock-offset {r} w k = record {
-        same = λ e. k.same e ∙ ap (λ (b : Bool). offsets b p (n + 7) (stand o next e)) good ∙ sym (clock-zone ok p n _ (stand o next e) h m x f z (five e) (and_comm (le_z z (pos 2)) (le_z (pos 2) z) ∙ w));
-        past = on-from o (n + 7) r past.0 k.past;
-      }
-
-      module _ {u : Bool} (w : within (pos 2) (pos 2) z ≡ false) (q : u ≡ t && within (pos 0) (pos 1) z) where
-        plain : (e : Env) → clock ok p n (stand o at e) ≡ cond u (got (n + 5) (stand o next e)) (stop (refusal 7 p))
-        plain e = clock-plain ok p n _ (stand o next e) h m x f z (five e) (and_comm (le_z z (pos 2)) (le_z (pos 2) z) ∙ w) ∙ rw (q, good)
-
-        pub clock-fit : u ≡ true → Passing o at (n + 7) (clock ok p n) (Parts next (n + 5))
-        clock-fit v = record { same = λ e. sym (plain e ∙ rw v); past = (past.0, past.1, omega arith) }
-
-        pub clock-unfit : u ≡ false → Passing o at (n + 7) (clock ok p n) (Unfit (refusal 7 p))
-        clock-unfit v = record { same = λ e. sym (plain e ∙ rw v); past = tt }
+      pub clock-unfit : u ≡ false → Passing o at (n + 7) (clock ok p n) (Err (refusal 7 p))
+      clock-unfit v = record { same = λ e. sym (plain e ∙ rw v); past = tt }
 
 -- ---- the whole
 
@@ -340,37 +341,50 @@ module _ (o : List ℕ) (at : ℕ) (e : Env) where
         by (got k s) = ends_same at (λ x. date_fits (y ∷ m ∷ d ∷ (k ++ x)) && time_fits (k ++ x)) (λ x. date_fits (y ∷ m ∷ d ∷ []) && time_fits (k ++ x)) (λ x. y ∷ m ∷ d ∷ (k ++ x)) (λ x. 3 + length (k ++ x)) (λ x. refl) (λ x. omega arith) (zoned k s)
         by (stop r) = refl
 
-module _ {o : List ℕ} {at : ℕ} {r3 : Three} (t : Bool) (h3 : ReadsThree o at r3) where
-  pub dated-cut : {x : Refusal} → r3 ≡ Cut3 x → Passing o at 10 (count_of (cond t dateTime date)) (Unfit x)
-  dated-cut {x} q = record { same = λ e. sym (count-stop o at e t x (stop-three h3 q e)); past = tt }
+module _ {o : List ℕ} {at : ℕ} {r3 : Result (ℕ × List ℤ) Refusal} (t : Bool) (h3 : ReadsInts 3 o at r3) where
+  pub dated-cut : {x : Refusal} → r3 ≡ Err x → Passing o at 10 (count_of (cond t dateTime date)) (Err x)
+  dated-cut {x} q = record { same = λ e. sym (count-stop o at e t x (stop-ints h3 q e)); past = tt }
 
-  module _ {next : ℕ} {y m d : ℤ} (q : r3 ≡ All next y m d) {u : Bool} (good : u ≡ date_fits (y ∷ m ∷ d ∷ [])) where
+  module _ {next : ℕ} {y m d : ℤ} (q : r3 ≡ Ok (next, y ∷ m ∷ d ∷ [])) {u : Bool} (good : u ≡ date_fits (y ∷ m ∷ d ∷ [])) where
     past3 : (at < next) × (next ≤ length o)
-    past3 = next-three h3 q
+    past3 = next-ints h3 q
 
-    pub dated-clock : {r : Moment} → t ≡ true → Passing o next 10 (clock u at 3) r → Passing o at 10 (count_of (cond t dateTime date)) r
+    pub dated-clock : {r : Result (ℕ × ℕ) Refusal} → t ≡ true → Passing o next 10 (clock u at 3) r → Passing o at 10 (count_of (cond t dateTime date)) r
     dated-clock {r} w k = rw w (record {
-      same = λ e. k.same e ∙ ap (λ (b : Bool). clock b at 3 (stand o next e)) good ∙ sym (count-stamp o at e (stand o next e) y m d (got-three h3 q e));
+      same = λ e. k.same e ∙ ap (λ (b : Bool). clock b at 3 (stand o next e)) good ∙ sym (count-stamp o at e (stand o next e) y m d (got-ints h3 q e));
       past = on-from o 10 r past3.0 k.past;
     })
 
-    pub dated-fit : t ≡ false → u ≡ true → Passing o at 10 (count_of (cond t dateTime date)) (Parts next 3)
-    dated-fit w v = rw w (record { same = λ e. sym (count-date o at e (stand o next e) y m d (got-three h3 q e) u good ∙ rw v); past = (past3.0, past3.1, omega arith) })
+    pub dated-fit : t ≡ false → u ≡ true → Passing o at 10 (count_of (cond t dateTime date)) (Ok (next, 3))
+    dated-fit w v = rw w (record { same = λ e. sym (count-date o at e (stand o next e) y m d (got-ints h3 q e) u good ∙ rw v); past = (past3.0, past3.1, omega arith) })
 
-    pub dated-unfit : t ≡ false → u ≡ false → Passing o at 10 (count_of (cond t dateTime date)) (Unfit (refusal 7 at))
-    dated-unfit w v = rw w (record { same = λ e. sym (count-date o at e (stand o next e) y m d (got-three h3 q e) u good ∙ rw v); past = tt })
+    pub dated-unfit : t ≡ false → u ≡ false → Passing o at 10 (count_of (cond t dateTime date)) (Err (refusal 7 at))
+    dated-unfit w v = rw w (record { same = λ e. sym (count-date o at e (stand o next e) y m d (got-ints h3 q e) u good ∙ rw v); past = tt })
 
-fewer : (o : List ℕ) (at : ℕ) (r : Moment) → MomentPast o at 7 r → MomentPast o at 10 r
-fewer o at (Parts next n) p = (p.0, p.1, omega (arith, p.2))
-fewer o at (Unfit x) p = tt
+fewer : (o : List ℕ) (at : ℕ) (r : Result (ℕ × ℕ) Refusal) → MomentPast o at 7 r → MomentPast o at 10 r
+fewer o at (Ok (next, n)) p = (p.0, p.1, omega (arith, p.2))
+fewer o at (Err x) p = tt
 
-module _ {o : List ℕ} {at : ℕ} {r : Moment} where
-  pub time-passed : (d : Which) → is_time d ≡ true → Passing o at 7 (clock true at 0) r → Passing o at 10 (count_of (parts_of d)) r
-  time-passed Date e k = absurd (no e)
-  time-passed Time e k = record { same = λ e. k.same e ∙ sym (count-time o at e); past = fewer o at r k.past }
-  time-passed DateTime e k = absurd (no e)
+module _ {o : List ℕ} {at : ℕ} {r : Result (ℕ × ℕ) Refusal} where
+  pub time-passed : {d : Which} → d ≡ Time → Passing o at 7 (clock true at 0) r → Passing o at 10 (count_of (parts_of d)) r
+  time-passed q k = rw q (record { same = λ e. k.same e ∙ sym (count-time o at e); past = fewer o at r k.past })
 
-  pub date-passed : (d : Which) (t : Bool) → is_time d ≡ false → t ≡ is_clocked d → Passing o at 10 (count_of (cond t dateTime date)) r → Passing o at 10 (count_of (parts_of d)) r
-  date-passed Date t e q k = rw q at k
-  date-passed Time t e q k = absurd (no (sym e))
-  date-passed DateTime t e q k = rw q at k
+-- a list of so many
+pub of-two : (l : List ℤ) → length l ≡ 2 → l ≡ part 0 l ∷ part 1 l ∷ []
+of-two [] h = absurd (omega arith)
+of-two (a ∷ []) h = absurd (omega arith)
+of-two (a ∷ b ∷ []) h = refl
+of-two (a ∷ b ∷ c ∷ l) h = absurd (omega arith)
+
+pub of-three : (l : List ℤ) → length l ≡ 3 → l ≡ part 0 l ∷ part 1 l ∷ part 2 l ∷ []
+of-three [] h = absurd (omega arith)
+of-three (a ∷ l) h = ap (λ (m : List ℤ). a ∷ m) (of-two l (omega arith))
+
+pub of-five : (l : List ℤ) → length l ≡ 5 → l ≡ part 0 l ∷ part 1 l ∷ part 2 l ∷ part 3 l ∷ part 4 l ∷ []
+of-five [] h = absurd (omega arith)
+of-five (a ∷ []) h = absurd (omega arith)
+of-five (a ∷ b ∷ l) h = ap (λ (m : List ℤ). a ∷ b ∷ m) (of-three l (omega arith))
+
+-- the same read, by its parts
+pub listed : {r : Result (ℕ × List ℤ) Refusal} {next : ℕ} {l m : List ℤ} → r ≡ Ok (next, l) → l ≡ m → r ≡ Ok (next, m)
+listed {next} q e = q ∙ ap (λ (k : List ℤ). Ok (next, k)) e

@@ -13,7 +13,7 @@ use borrow.Author.Tests.{ltb-true, ltb-false}
 use Rattle.reading.specs.Reading.{Env, got, stop, refusal, stand, ◌>>=◌, return}
 use Rattle.reading.proofs.Places.{octet-at, octet-end}
 use Rattle.format.specs.Data.{run}
-use Rattle.scalar.specs.declared.Passed.TheVariants.{Past, Refused}
+use Rattle.std.specs.Prelude.{Ok, Err}
 use Rattle.scalar.specs.Answers.{Passes}
 use Rattle.scalar.specs.Parts.{part}
 use Rattle.scalar.proofs.Passing.{passes-got, passes-stop}
@@ -37,10 +37,10 @@ module _ (o : List ℕ) (e : Env) where
       by again false q = let z : at ≡ length o = omega (arith, ltb-false at (length o) q) in rw (octet-end o at e (ltb-false at (length o) q), z)
 
 module _ {o : List ℕ} {at n : ℕ} where
-  pub octets-there : at + n ≤ length o → Passes n o at (run n) (Past (at + n))
+  pub octets-there : at + n ≤ length o → Passes n o at (run n) (Ok (at + n))
   octets-there h = passes-got _ (λ e. run_at o e n at h) (omega arith) h
 
-  pub octets-short : at ≤ length o → length o < at + n → Passes n o at (run n) (Refused (refusal 1 (length o)))
+  pub octets-short : at ≤ length o → length o < at + n → Passes n o at (run n) (Err (refusal 1 (length o)))
   octets-short h g = passes-stop λ e. run_end o e n at h g
 
 -- ---- the octets from a place to another

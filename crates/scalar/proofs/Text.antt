@@ -13,9 +13,9 @@ use borrow.Author.Count.{below_more}
 use Rattle.reading.specs.Reading.{Env, State, Out, got, stop, refusal, stand, follow, ◌>>=◌, return, require, here}
 use Rattle.format.specs.Types.{octets, characters}
 use Rattle.format.specs.Data.{followers, is_char, chars, contents}
-use Rattle.scalar.specs.declared.Passed.TheVariants.{Past, Refused}
 use Rattle.scalar.specs.Answers.{Passes}
-use Rattle.scalar.specs.Parts.{part, counts, Spells, Plain, Reached, Told}
+use Rattle.std.specs.Prelude.{Option, Some, None, Ok, Err}
+use Rattle.scalar.specs.Parts.{Within, part, counts, Spells, Plain, Reached, Told}
 use Rattle.scalar.proofs.Passing.{passes-got, passes-stop}
 use Rattle.scalar.proofs.Octets.{run_at, run_end, part-more, part-drop, part_none}
 use Rattle.scalar.proofs.Chars.{is_one, counts-yes, spells_one}
@@ -26,7 +26,7 @@ chars-skip zero p l s = rw (add-zero p)
 chars-skip (suc k) p [] s = refl
 chars-skip (suc k) p (a ∷ l) s = let next : p + 1 + k ≡ p + suc k = omega arith in chars-skip k (p + 1) l s ∙ rw next
 
-module _ {o : List ℕ} {at end r : ℕ} (h : end ≤ length o) (g : at < end) (w : Spells o at end r) (s : State) where
+module _ {o : List ℕ} {at end : ℕ} {r : Option ℕ} (h : end ≤ length o) (g : at < end) (w : Spells o at end r) (s : State) where
   abbrev f : ℕ
   f = followers (get_or o at 0)
 
@@ -44,22 +44,23 @@ module _ {o : List ℕ} {at end r : ℕ} (h : end ≤ length o) (g : at < end) (
       by true = refl
       by false = refl
 
-  chars-bad : r ≡ 0 → chars 0 at (part o at end) s ≡ stop (refusal 6 at)
+  chars-bad : r ≡ None → chars 0 at (part o at end) s ≡ stop (refusal 6 at)
   chars-bad z = by (is_char front) refl
     where
       by : (t : Bool) → is_char front ≡ t → chars 0 at (part o at end) s ≡ stop (refusal 6 at)
-      by true e = let is : r ≡ 1 + f = counted ∙ rw e in absurd (omega arith)
+      by true e = let is : r ≡ Some (1 + f) = counted ∙ rw e in let w : ◌≡◌ {A = ℕ} 0 1 = cc in absurd (omega arith)
       by false e = opened false e
 
-  chars-on : (r ≡ 0 → ⊥) → chars 0 at (part o at end) s ≡ chars 0 (at + r) (part o (at + r) end) s
-  chars-on n = by (is_char front) refl
+  chars-on : {k : ℕ} → r ≡ Some k → chars 0 at (part o at end) s ≡ chars 0 (at + k) (part o (at + k) end) s
+  chars-on {k} n = by (is_char front) refl
     where
-      by : (t : Bool) → is_char front ≡ t → chars 0 at (part o at end) s ≡ chars 0 (at + r) (part o (at + r) end) s
+      by : (t : Bool) → is_char front ≡ t → chars 0 at (part o at end) s ≡ chars 0 (at + k) (part o (at + k) end) s
       by true e =
-          let is : r ≡ 1 + f = counted ∙ rw e in
-          let next : at + 1 + f ≡ at + r = omega arith in
-          opened true e ∙ chars-skip f (at + 1) (part o (at + 1) end) s ∙ rw (part-drop o end h f (at + 1) (omega (arith, w.within)), next)
-      by false e = absurd (n (counted ∙ rw e))
+          let is : r ≡ Some (1 + f) = counted ∙ rw e in
+          let same : k ≡ 1 + f = cc in
+          let next : at + 1 + f ≡ at + k = omega arith in
+          opened true e ∙ chars-skip f (at + 1) (part o (at + 1) end) s ∙ rw (part-drop o end h f (at + 1) (omega (arith, (subst (Within at end) n w.within).1)), next)
+      by false e = let is : r ≡ None = counted ∙ rw e in let w : ◌≡◌ {A = ℕ} 0 1 = cc in absurd (omega arith)
 
 -- ---- how far they are well spelt
 
@@ -67,10 +68,10 @@ pub reached-first : (o : List ℕ) (from end : ℕ) → from ≤ end → Reached
 reached-first o from end h = record { past = omega arith; within = h; same = λ s. refl }
 
 module _ {o : List ℕ} {from end at : ℕ} (h : end ≤ length o) (q : Reached o from end at) where
-  pub reached-more : {r : ℕ} → at < end → Spells o at end r → (r ≡ 0 → ⊥) → Reached o from end (at + r)
-  reached-more g w n = record { past = omega (arith, q.past); within = w.within; same = λ s. q.same s ∙ chars-on h g w s n }
+  pub reached-more : {r : Option ℕ} {k : ℕ} → at < end → Spells o at end r → r ≡ Some k → Reached o from end (at + k)
+  reached-more g w n = record { past = omega (arith, q.past); within = (subst (Within at end) n w.within).1; same = λ s. q.same s ∙ chars-on h g w s n }
 
-  pub told-bad : {r : ℕ} → at < end → Spells o at end r → r ≡ 0 → Told o from end at
+  pub told-bad : {r : Option ℕ} → at < end → Spells o at end r → r ≡ None → Told o from end at
   told-bad g w z = record { within = q.within; same = λ s. q.same s ∙ chars-bad h g w s z ∙ sym (rw (lt-ltb at end g)) }
 
   pub told-end : end ≤ at → Told o from end at
@@ -93,7 +94,7 @@ plain_more {o} {from} {end} h (suc n) at q p g =
     let first : (0 < get_or o at 0) × (get_or o at 0 < 128) = rw (add-zero at) at (p 0 (omega arith)) in
     let one = spells_one o at end (omega arith) h first.1 (counts-yes 1 _ (is_one _ first.0 first.1)) in
     let next : at + 1 + n ≡ at + suc n = omega arith in
-    subst (Reached o from end) next (plain_more h n (at + 1) (reached-more h q (omega arith) one (λ z. omega arith)) (plain-rest o at n p) (omega arith))
+    subst (Reached o from end) next (plain_more h n (at + 1) (reached-more h q (omega arith) one refl) (plain-rest o at n p) (omega arith))
 
 -- the last of them, where octets after the end are plain too
 pub told-plain : {o : List ℕ} {from end at : ℕ} → end ≤ length o → Reached o from end at → Plain o at 16 → end - at < 16 → Told o from end end
@@ -107,13 +108,13 @@ plain-again o at k p a b = below_more _ _ p (a, b)
 -- ---- the contents
 
 module _ {o : List ℕ} {at : ℕ} (n : ℕ) where
-  pub text-short : (t : Bool) → at ≤ length o → length o < at + n → Passes n o at (contents (cond t characters octets) (pos n)) (Refused (refusal 1 (length o)))
+  pub text-short : (t : Bool) → at ≤ length o → length o < at + n → Passes n o at (contents (cond t characters octets) (pos n)) (Err (refusal 1 (length o)))
   unfolding contents ◌>>=◌ here
   text-short true h g = passes-stop λ e. rw (run_end o e n at h g)
   text-short false h g = passes-stop λ e. run_end o e n at h g
 
   module _ {t : Bool} (h : at + n ≤ length o) where
-    pub text-octets : t ≡ false → Passes n o at (contents (cond t characters octets) (pos n)) (Past (at + n))
+    pub text-octets : t ≡ false → Passes n o at (contents (cond t characters octets) (pos n)) (Ok (at + n))
     unfolding contents
     text-octets e = rw e (passes-got _ (λ e. run_at o e n at h) (omega arith) h)
 
@@ -124,9 +125,9 @@ module _ {o : List ℕ} {at : ℕ} (n : ℕ) where
         let size : at + n - at ≡ n = omega arith in
         rw (w, run_at o e n at h, ← q.same (stand o (at + n) e), size)
 
-    pub text-bad : {r : ℕ} → t ≡ true → Told o at (at + n) r → r < at + n → Passes n o at (contents (cond t characters octets) (pos n)) (Refused (refusal 6 r))
+    pub text-bad : {r : ℕ} → t ≡ true → Told o at (at + n) r → r < at + n → Passes n o at (contents (cond t characters octets) (pos n)) (Err (refusal 6 r))
     text-bad {r} w q g = passes-stop λ e. read w q e ∙ rw (lt-ltb r (at + n) g)
 
-    pub text-good : {r : ℕ} → t ≡ true → Told o at (at + n) r → at + n ≤ r → Passes n o at (contents (cond t characters octets) (pos n)) (Past (at + n))
+    pub text-good : {r : ℕ} → t ≡ true → Told o at (at + n) r → at + n ≤ r → Passes n o at (contents (cond t characters octets) (pos n)) (Ok (at + n))
     unfolding return
     text-good {r} w q g = passes-got (take n (drop at o)) (λ e. read w q e ∙ rw (le-ltb r (at + n) g)) (omega arith) h

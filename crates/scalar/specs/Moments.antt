@@ -1,38 +1,25 @@
--- Dates and times, as code reads them: two or three integers at a time.
-use Rattle.std.specs.Prelude.{◌≡◌, Bool, true, false, ◌&&◌, List, [], ◌∷◌, ◌++◌, ℕ, ◌+◌, ◌<◌, ◌≤◌, length, ℤ, pos, negsuc}
+-- Dates and times, as code reads them: some integers at a time.
+use Rattle.std.specs.Prelude.{◌≡◌, Bool, ◌&&◌, List, [], ◌++◌, ℕ, ◌+◌, ◌^◌, ◌<◌, ◌≤◌, length, ℤ, pos, negsuc, Result, Ok, Err}
+use Rattle.std.specs.Int.Signed.{mag}
 use Rattle.reading.specs.Reading.{Env, Out, got, stop, stand, Reader, ◌>>=◌, ◌>>◌, return, require, either}
 use Rattle.format.specs.Types.{Parts, date, time, dateTime}
 use Rattle.format.specs.Data.{within, integers, part, offset, time_fits, moment}
 use Rattle.scalar.specs.declared.Which.{Which}
 use Rattle.scalar.specs.declared.Which.TheVariants.{Date, Time, DateTime}
-use Rattle.scalar.specs.declared.Two.{Two}
-use Rattle.scalar.specs.declared.Two.TheVariants.{Both, Cut2}
-use Rattle.scalar.specs.declared.Three.{Three}
-use Rattle.scalar.specs.declared.Three.TheVariants.{All, Cut3}
+use Rattle.reading.specs.declared.Refusal.{Refusal}
 
-abbrev pub out_two : List ℕ → Env → Two → Out (List ℤ)
-out_two o e (Both next a b) = got (a ∷ b ∷ []) (stand o next e)
-out_two o e (Cut2 r) = stop r
+-- n integers and the place past them, or a refusal
+abbrev pub out_ints : List ℕ → Env → Result (ℕ × List ℤ) Refusal → Out (List ℤ)
+out_ints o e (Ok (next, l)) = got l (stand o next e)
+out_ints o e (Err r) = stop r
 
-abbrev pub out_three : List ℕ → Env → Three → Out (List ℤ)
-out_three o e (All next a b c) = got (a ∷ b ∷ c ∷ []) (stand o next e)
-out_three o e (Cut3 r) = stop r
+abbrev pub PastInts : ℕ → List ℕ → ℕ → Result (ℕ × List ℤ) Refusal → Type 0
+PastInts n o at (Ok (next, l)) = (at < next) × (next ≤ length o) × (length l ≡ n) × ((i : ℕ) → i < n → mag (part i l) < 2 ^ 31)
+PastInts n o at (Err r) = Unit {0}
 
-abbrev pub PastTwo : List ℕ → ℕ → Two → Type 0
-PastTwo o at (Both next a b) = (at < next) × (next ≤ length o)
-PastTwo o at (Cut2 r) = Unit {0}
-
-abbrev pub PastThree : List ℕ → ℕ → Three → Type 0
-PastThree o at (All next a b c) = (at < next) × (next ≤ length o)
-PastThree o at (Cut3 r) = Unit {0}
-
-pub record ReadsTwo (o : List ℕ) (at : ℕ) (r : Two) : Type 0 where
-  pub same : (e : Env) → out_two o e r ≡ integers 2 (stand o at e)
-  pub past : PastTwo o at r
-
-pub record ReadsThree (o : List ℕ) (at : ℕ) (r : Three) : Type 0 where
-  pub same : (e : Env) → out_three o e r ≡ integers 3 (stand o at e)
-  pub past : PastThree o at r
+pub record ReadsInts (n : ℕ) (o : List ℕ) (at : ℕ) (r : Result (ℕ × List ℤ) Refusal) : Type 0 where
+  pub same : (e : Env) → out_ints o e r ≡ integers n (stand o at e)
+  pub past : PastInts n o at r
 
 -- hour, minute, second and fraction are in range
 abbrev pub clock_fits : ℤ → ℤ → ℤ → ℤ → Bool
@@ -65,13 +52,3 @@ abbrev pub parts_of : Which → Parts
 parts_of Date = date
 parts_of Time = time
 parts_of DateTime = dateTime
-
-abbrev pub is_time : Which → Bool
-is_time Date = false
-is_time Time = true
-is_time DateTime = false
-
-abbrev pub is_clocked : Which → Bool
-is_clocked Date = false
-is_clocked Time = true
-is_clocked DateTime = true

@@ -1,5 +1,5 @@
 -- What the parts of the code say.
-use Rattle.std.specs.Prelude.{◌≡◌, cond, List, [], ◌∷◌, ℕ, ◌+◌, ◌-◌, ◌<◌, ◌≤◌, get_or, take, drop, ltb}
+use Rattle.std.specs.Prelude.{◌≡◌, cond, List, [], ◌∷◌, ℕ, ◌+◌, ◌-◌, ◌<◌, ◌≤◌, get_or, take, drop, ltb, Option, Some, None}
 use Rattle.reading.specs.Reading.{State, got, stop, refusal}
 use Rattle.format.specs.Data.{followers, is_char, chars}
 
@@ -9,18 +9,22 @@ use Rattle.format.specs.Data.{followers, is_char, chars}
 abbrev pub part : List ℕ → ℕ → ℕ → List ℕ
 part o at end = take (end - at) (drop at o)
 
--- so many if the octets are a character, else 0
-abbrev pub counts : ℕ → List ℕ → ℕ
-counts k l = cond (is_char l) k 0
+-- so many if the octets are a character
+abbrev pub counts : ℕ → List ℕ → Option ℕ
+counts k l = cond (is_char l) (Some k) None
 
--- how many octets the first character has, 0 if it is misspelt or cut
-abbrev pub spelling_of : List ℕ → ℕ
-spelling_of [] = 0
+-- how many octets the first character has, if it is well spelt and not cut
+abbrev pub spelling_of : List ℕ → Option ℕ
+spelling_of [] = None
 spelling_of (a ∷ l) = counts (1 + followers a) (take (1 + followers a) (a ∷ l))
 
-pub record Spells (o : List ℕ) (at end r : ℕ) : Type 0 where
+abbrev pub Within : ℕ → ℕ → Option ℕ → Type 0
+Within at end (Some n) = (0 < n) × (at + n ≤ end)
+Within at end None = Unit {0}
+
+pub record Spells (o : List ℕ) (at end : ℕ) (r : Option ℕ) : Type 0 where
   pub same : r ≡ spelling_of (part o at end)
-  pub within : at + r ≤ end
+  pub within : Within at end r
 
 -- so many octets from a place on are each a character
 abbrev pub Plain : List ℕ → ℕ → ℕ → Type 0

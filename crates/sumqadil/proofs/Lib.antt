@@ -1,3 +1,4 @@
 mod Alike
+mod Lent
 mod Listed
 mod Numbers

@@ -9,7 +9,7 @@ use lib.ListN.{length}
 use lib.Dec.{ltb, leb, eqb}
 use lib.IntN.{ℤ, pos, negsuc}
 use lib.Signed.{mag}
-use Rattle.reading.specs.Reading.{Env, Out, got, stop, Reader, start}
+use Rattle.reading.specs.Reading.{number_of, reason_of, Env, Out, got, stop, Reader, start}
 use Rattle.integer.specs.Packed.{Width, wide32, further, integer}
 use Rattle.format.specs.declared.Row.{Row}
 use Rattle.format.specs.declared.As.{As}
@@ -157,7 +157,7 @@ or-16 k n e = rw e
 
 numbered_more : {A : Type 0} {among more : ℕ → Bool} → ((n : ℕ) → among n ≡ true → more n ≡ true) → (a : Answer A) → Numbered among a → Numbered more a
 numbered_more k (ok x) h = tt
-numbered_more k (refused r) h = k r.number h
+numbered_more k (refused r) h = k (number_of r.reason) h
 
 10≤11 : 10 ≤ 11
 10≤11 = omega arith
@@ -187,7 +187,7 @@ frame-listed =
     l-bind framed-listed λ c. l-bind l-here λ from. l-bind (l-more (or-16 11) whole-listed) λ v. l-bind (l-require _ 16 0 refl) λ _. l-ret _
 
 module _ (among : ℕ → Bool) where
-  unless-numbered : {A : Type 0} (t : Bool) (n : ℕ) (a : Answer A) → among n ≡ true → Numbered among a → Numbered among (unless t n a)
+  unless-numbered : {A : Type 0} (t : Bool) (n : ℕ) (a : Answer A) → among (number_of (reason_of n)) ≡ true → Numbered among a → Numbered among (unless t n a)
   unless-numbered true n a g h = h
   unless-numbered false n a g h = g
 

@@ -1,18 +1,20 @@
 -- What a caller from outside is told of an answer, in plain numbers.
 use Rattle.std.specs.Prelude.{◌≡◌, Bool, true, cond, ◌&&◌, ◌||◌, List, ℕ, leb, eqb, ℤ, pos}
+use Rattle.reading.specs.Reading.{number_of}
 use Rattle.format.specs.declared.Row.{Row}
 use Rattle.format.specs.declared.As.TheVariants.{Int16, Int32, Int64, Octet, Char, Boolean}
 use Rattle.format.specs.Message.{Answer, ok, refused, then, read_message, read_frame}
 use Rattle.format.specs.Writing.{Table}
 use Rattle.format.specs.Asking.{ask, cannot}
-use Rattle.message.specs.Messages.{shortest, Holds, counted}
+use Rattle.columns.specs.Columns.{shortest}
+use Rattle.message.specs.Messages.{Holds, counted}
 use Rattle.frame.specs.Frames.{rows_of}
 use Rattle.frame.specs.Frames as frame
 
 -- 0 for a result, else the refusal's number
 abbrev pub status : {A : Type 0} → Answer A → ℕ
 status (ok a) = 0
-status (refused r) = r.number
+status (refused r) = number_of r.reason
 
 -- the refusal's place, 0 for a result
 abbrev pub fault : {A : Type 0} → Answer A → ℕ
@@ -37,7 +39,7 @@ of_row n = eqb n 14 || eqb n 15
 -- an answer's refusal has one of these numbers
 abbrev pub Numbered : {A : Type 0} → (ℕ → Bool) → Answer A → Type 0
 Numbered among (ok a) = Unit {0}
-Numbered among (refused r) = among r.number ≡ true
+Numbered among (refused r) = among (number_of r.reason) ≡ true
 
 -- a count or a refusal, told by a number that is given back and two that are lent
 pub record Counted (a : Answer ℕ) (given count place : ℕ) : Type 0 where

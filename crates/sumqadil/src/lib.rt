@@ -10,27 +10,26 @@ ghost use Rattle.frame.specs.Frames.{answer_of as framed, needs};
 ghost use Rattle.ask.specs.Outcomes.{answered};
 ghost use Rattle.sumqadil.specs.Told.{Counted, MessageTold, Opened, FrameTold, Valued, ask_by, AskedBy};
 
-use ask::Asked;
+use columns::ColumnsMut;
 use format::{As, Row};
-use frame::Framed;
-use measure::Measured;
+use frame::Frame;
 use reading::Refusal;
 
 // ---- Measuring, and messages ----
 
-fn tell_count(m: Measured, count: &mut usize, place: &mut usize) -> u8
-    ensures { Counted (answer_of m) result count.new place.new }
+fn tell_count(answer: Result<usize, Refusal>, count: &mut usize, place: &mut usize) -> u8
+    ensures { Counted (answer_of answer) result count.new place.new }
 {
-    match m {
-        Measured::Amount(n) => {
+    match answer {
+        Ok(n) => {
             *count = n;
             *place = 0;
             0
         }
-        Measured::Refused(r) => {
+        Err(r) => {
             *count = 0;
             *place = r.place;
-            r.number
+            r.reason.number()
         }
     }
 }
@@ -50,8 +49,10 @@ pub fn sumqadil_count_rows(src: &[u8], rows: &mut usize, place: &mut usize) -> u
 }
 
 // Reading a message into ten lent columns: the count of its rows, which stand first in each column.
+#[tactic(auto, using(crate::proofs::Lent::handed_back))]
 pub fn sumqadil_read_message(
     src: &[u8],
+    // C passes the ten columns one by one.
     ty: &mut [i32],
     own: &mut [u8],
     label: &mut [u32],
@@ -67,16 +68,26 @@ pub fn sumqadil_read_message(
 ) -> u8
     ensures { MessageTold src.now (columns ty.old own.old label.old number.old first.old second.old contents.old below.old start.old end.old) result rows.new place.new (columns ty.new own.new label.new number.new first.new second.new contents.new below.new start.new end.new) }
 {
-    let read = message::read_message(
-        src, ty, own, label, number, first, second, contents, below, start, end,
-    );
+    let mut columns = ColumnsMut {
+        ty,
+        own,
+        label,
+        number,
+        first,
+        second,
+        place: contents,
+        below,
+        start,
+        end,
+    };
+    let read = message::read_message(src, &mut columns);
     tell_count(read, rows, place)
 }
 
 // ---- Frames ----
 
 fn tell_frame(
-    answer: Framed,
+    answer: Result<Frame, Refusal>,
     rows: &mut usize,
     conversation: &mut i32,
     from: &mut usize,
@@ -85,19 +96,19 @@ fn tell_frame(
     ensures { Opened (framed answer) result rows.new conversation.new from.new place.new }
 {
     match answer {
-        Framed::Rows(start, n, c) => {
-            *rows = n;
-            *conversation = c;
-            *from = start.0;
+        Ok(frame) => {
+            *rows = frame.rows;
+            *conversation = frame.conversation;
+            *from = frame.message.0;
             *place = 0;
             0
         }
-        Framed::Refused(r) => {
+        Err(r) => {
             *rows = 0;
             *conversation = 0;
             *from = 0;
             *place = r.place;
-            r.number
+            r.reason.number()
         }
     }
 }
@@ -116,8 +127,10 @@ pub fn sumqadil_check_frame(
 }
 
 // Reading a frame into ten lent columns. The rows' places are message places.
+#[tactic(auto, using(crate::proofs::Lent::handed_back))]
 pub fn sumqadil_read_frame(
     src: &[u8],
+    // C passes the ten columns one by one.
     ty: &mut [i32],
     own: &mut [u8],
     label: &mut [u32],
@@ -135,45 +148,45 @@ pub fn sumqadil_read_frame(
 ) -> u8
     ensures { FrameTold src.now (columns ty.old own.old label.old number.old first.old second.old contents.old below.old start.old end.old) result rows.new conversation.new from.new place.new (columns ty.new own.new label.new number.new first.new second.new contents.new below.new start.new end.new) }
 {
-    let read = frame::read_frame(
-        src, ty, own, label, number, first, second, contents, below, start, end,
-    );
+    let mut columns = ColumnsMut {
+        ty,
+        own,
+        label,
+        number,
+        first,
+        second,
+        place: contents,
+        below,
+        start,
+        end,
+    };
+    let read = frame::read_frame(src, &mut columns);
     tell_frame(read, rows, conversation, from, place)
 }
 
 // ---- Asking ----
 
-fn tell_value(answer: Asked, value: &mut i64) -> u8
+fn tell_value(answer: Result<i64, Refusal>, value: &mut i64) -> u8
     ensures { Valued (answered answer) result value.new }
 {
     match answer {
-        Asked::Value(v) => {
+        Ok(v) => {
             *value = v;
             0
         }
-        Asked::Refused(r) => {
+        Err(r) => {
             *value = 0;
-            r.number
+            r.reason.number()
         }
     }
 }
 
 // Asks a row by the number of a type.
-fn ask_by(row: Row, what: u8) -> Asked
+fn ask_by(row: Row, what: u8) -> Result<i64, Refusal>
     ensures { answered result ≡ ask_by what row }
 {
-    match what {
-        0 => ask::ask(row, As::Int16),
-        1 => ask::ask(row, As::Int32),
-        2 => ask::ask(row, As::Int64),
-        3 => ask::ask(row, As::Octet),
-        4 => ask::ask(row, As::Char),
-        5 => ask::ask(row, As::Boolean),
-        _ => Asked::Refused(Refusal {
-            place: 0,
-            number: 15,
-        }),
-    }
+    let wanted = As::try_from(what)?;
+    ask::ask(row, wanted)
 }
 
 // The value of a row with this type and number, as the type asked for. No other number of the row is looked at.
@@ -182,15 +195,8 @@ pub fn sumqadil_ask(ty: i32, number: i64, what: u8, value: &mut i64) -> u8
 {
     let row = Row {
         ty,
-        own: 0,
-        label: 0,
         number,
-        first: 0,
-        second: 0,
-        place: 0,
-        below: 0,
-        start: 0,
-        end: 0,
+        ..Row::default()
     };
     tell_value(ask_by(row, what), value)
 }

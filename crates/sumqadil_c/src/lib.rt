@@ -27,6 +27,7 @@ pub extern "C" fn sumqadil_count_rows(src: &[u8], rows: &mut usize, place: &mut 
 #[unsafe(no_mangle)]
 pub extern "C" fn sumqadil_read_message(
     src: &[u8],
+    // C passes the ten columns one by one.
     ty: &mut [i32],
     own: &mut [u8],
     label: &mut [u32],
@@ -65,6 +66,7 @@ pub extern "C" fn sumqadil_check_frame(
 #[unsafe(no_mangle)]
 pub extern "C" fn sumqadil_read_frame(
     src: &[u8],
+    // C passes the ten columns one by one.
     ty: &mut [i32],
     own: &mut [u8],
     label: &mut [u32],

@@ -1,19 +1,18 @@
 -- Numbers in decimal: without the fuel of their definition, and how long they are.
 use mathlib.Core.Path.{◌≡◌, refl, sym, ap, ◌∙◌}
 use mathlib.Core.Bool.{Bool, true, false}
-use mathlib.Core.List.{List, [], ◌∷◌, ◌++◌, append-nil, append_assoc}
-use Prim.Native.Nat.{ℕ, zero, suc, ◌+◌, ◌-◌, ◌*◌, ◌/◌, ◌%◌, ◌^◌, ◌<◌, ◌≤◌}
+use mathlib.Core.List.{List, [], ◌∷◌, ◌++◌}
+use Prim.Native.Nat.{ℕ, zero, suc, ◌+◌, ◌*◌, ◌/◌, ◌%◌, ◌^◌, ◌<◌, ◌≤◌}
 use native.Mathlib.Omega.{arith}
 use native.Mathlib.Nat.{pow-suc}
-use lib.ListN.{length, set, length-append, length-set}
-use lib.Seq.{sets, length-sets}
+use lib.ListN.{length, length-append}
 use lib.Dec.{ltb}
 use lib.IntN.{ℤ, pos, negsuc}
 use lib.Signed.{mag}
 use borrow.Author.Tests.{ltb-true, ltb-false, lt-ltb, le-ltb}
+use Rattle.std.specs.Fmt as spelling
+use Rattle.std.proofs.lemmas.Fmt.{decimal_by_steps}
 use Rattle.format.specs.Desk.{digits_by, decimal}
-use Rattle.integer.specs.Writes.{Room, Wrote}
-use Rattle.text.proofs.Writes.{set-sets}
 
 digits_by-one : (k n : ℕ) → n < 10 → digits_by (suc k) n ≡ (0x30 + n) ∷ []
 unfolding digits_by
@@ -65,13 +64,6 @@ digits-few (suc k) n h = by (digits-few k (n / 10)) (ltb n 10) refl
         let few : length (decimal (pos (n / 10))) ≤ suc k = rest (omega (arith, grows)) in
         omega (arith, more-length n (ltb-false n 10 e))
 
-pub decimal-some : (n : ℕ) → 1 ≤ length (decimal (pos n))
-decimal-some n = by (ltb n 10) refl
-  where
-    by : (t : Bool) → ltb n 10 ≡ t → 1 ≤ length (decimal (pos n))
-    by true e = rw (decimal-one n (ltb-true n 10 e)) (omega arith)
-    by false e = omega (arith, more-length n (ltb-false n 10 e))
-
 -- an unsigned number of 64 bits
 pub count-length : (n : ℕ) → n < 2 ^ 64 → length (decimal (pos n)) ≤ 20
 count-length n h = digits-few 19 n (omega arith)
@@ -84,57 +76,11 @@ signed-length k (negsuc n) h = rw (decimal-minus n) (omega (arith, digits-few k 
 pub decimal-length : (v : ℤ) → mag v < 2 ^ 63 → length (decimal v) ≤ 20
 decimal-length v h = signed-length 18 v (omega arith)
 
--- ---- the digits left to count
+-- ---- as std spells a number
 
-pub record Counted (n m count : ℕ) : Type 0 where
-  pub total : length (decimal (pos m)) + count ≡ length (decimal (pos n)) + 1
-  pub few : length (decimal (pos n)) ≤ 20
+pub spelt : (n : ℕ) → n < 2 ^ 64 → decimal (pos n) ≡ spelling.decimal n
+spelt n h = decimal_by_steps (λ n ds. decimal (pos n) ≡ ds) decimal-one (λ n ds m e. decimal-more n m ∙ ap (λ (l : List ℕ). l ++ ((0x30 + n % 10) ∷ [])) e) n h
 
-pub counted-first : (n : ℕ) → n < 2 ^ 64 → Counted n n 1
-counted-first n h = record { total = refl; few = count-length n h }
-
-pub counted-again : {n m count : ℕ} → Counted n m count → 10 ≤ m → Counted n (m / 10) (count + 1)
-counted-again {n} {m} {count} k h = record { total = omega (arith, more-length m h, k.total); few = k.few }
-
-pub counted-last : {n m count : ℕ} → Counted n m count → m < 10 → count ≡ length (decimal (pos n))
-counted-last {n} {m} {count} k h = omega (arith, ap length (decimal-one m h), k.total)
-
--- ---- the digits written, the last first
-
--- what is written of n's digits stands behind those of m, the last of which is to stand at i
-pub record Behind (l : List ℕ) (at n : ℕ) (out : List ℕ) (m i : ℕ) : Type 0 where
-  pub done : List ℕ
-  pub parts : decimal (pos n) ≡ decimal (pos m) ++ done
-  pub place : i + 1 ≡ at + length (decimal (pos m))
-  pub holds : out ≡ sets l (suc i) done
-  pub within : i < length out
-
-pub behind-first : {l : List ℕ} {at n end : ℕ} → Room (decimal (pos n)) at l → end ≡ at + length (decimal (pos n)) → Behind l at n l n (end - 1)
-behind-first {l} {at} {n} {end} h e =
-    let some = decimal-some n in
-    record { done = []; parts = sym (append-nil (decimal (pos n))); place = omega arith; holds = refl; within = omega (arith, h.room) }
-
-module _ {l : List ℕ} {at n : ℕ} {out : List ℕ} {m i : ℕ} (k : Behind l at n out m i) where
-  pub behind-inner : 10 ≤ m → 1 ≤ i
-  behind-inner h = omega (arith, k.place, more-length m h, decimal-some (m / 10))
-
-  pub behind-kept : (b : ℕ) → length (set out i b) ≡ length l
-  behind-kept b = length-set out i b ∙ ap length k.holds ∙ length-sets l (suc i) k.done
-
-  pub behind-again : 10 ≤ m → Behind l at n (set out i (0x30 + m % 10)) (m / 10) (i - 1)
-  behind-again h =
-      let inner = behind-inner h in
-      let e : suc (i - 1) ≡ i = omega arith in
-      record {
-        done = (0x30 + m % 10) ∷ k.done;
-        parts = k.parts ∙ rw (decimal-more m h, append_assoc);
-        place = omega (arith, k.place, more-length m h);
-        holds = rw (e, k.holds) (set-sets k.done l i (suc i) (0x30 + m % 10) (omega arith));
-        within = omega (arith, k.within, length-set out i (0x30 + m % 10));
-      }
-
-  pub behind-last : m < 10 → {end : ℕ} → end ≡ at + length (decimal (pos n)) → Wrote (decimal (pos n)) at l end (set out i (0x30 + m))
-  behind-last h e =
-      let here : i ≡ at = omega (arith, k.place, ap length (decimal-one m h)) in
-      let whole : decimal (pos n) ≡ (0x30 + m) ∷ k.done = k.parts ∙ rw (decimal-one m h) in
-      record { past = e; holds = rw (whole, k.holds, here) (set-sets k.done l at (suc at) (0x30 + m) (omega arith)) }
+pub spelt-as : (z : ℤ) → mag z < 2 ^ 63 → decimal z ≡ spelling.signed_decimal z
+spelt-as (pos n) h = spelt n (omega arith)
+spelt-as (negsuc n) h = decimal-minus n ∙ ap (λ (l : List ℕ). 0x2D ∷ l) (spelt (suc n) (omega arith))

@@ -7,6 +7,8 @@ use lib.ListN.{length, length-append}
 use lib.IntN.{ℤ, pos}
 use lib.Signed.{mag}
 use Rattle.reading.specs.declared.Refusal.{Refusal}
+use Rattle.reading.specs.Reading.{number_of}
+use Rattle.reading.proofs.Reasons.{number-small}
 use Rattle.format.specs.Desk.{decimal, numbers, row_text, rows_text, printed}
 use Rattle.format.specs.Message.{ok, refused}
 use Rattle.format.specs.declared.Row.{Row}
@@ -41,8 +43,8 @@ row-length {r} h =
 pub accepted-length : (z : ℤ) (n : ℕ) → mag z < 2 ^ 31 → n < 2 ^ 64 → length (accepted z n) ≤ 36
 accepted-length z n h g = omega (arith, size z (pos n ∷ []) (signed z h) (size (pos n) [] (count-length n g) none))
 
-pub refused-length : (r : Refusal) → r.number < 2 ^ 8 → r.place < 2 ^ 64 → length (printed (refused r)) ≤ 28
-refused-length r h g = omega (arith, size (pos r.number) (pos r.place ∷ []) (octet r.number h) (size (pos r.place) [] (count-length r.place g) none))
+pub refused-length : (r : Refusal) → r.place < 2 ^ 64 → length (printed (refused r)) ≤ 28
+refused-length r g = omega (arith, size (pos (number_of r.reason)) (pos r.place ∷ []) (octet (number_of r.reason) (omega (arith, number-small r.reason))) (size (pos r.place) [] (count-length r.place g) none))
 
 -- the line of an accepted frame, and its rows
 pub accepted-first : (a : ℤ × ℕ × List Row) → printed (ok a) ≡ accepted a.0 (length a.2) ++ rows_text a.2

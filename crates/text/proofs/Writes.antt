@@ -13,10 +13,6 @@ pub set-sets : (vs l : List ℕ) (i j b : ℕ) → i < j → set (sets l j vs) i
 set-sets [] l i j b h = refl
 set-sets (a ∷ vs) l i j b h = set-sets vs (set l j a) i (suc j) b (omega arith) ∙ ap (λ (r : List ℕ). sets r (suc j) vs) (set_comm l j i a b (λ e. omega arith))
 
--- there is room after one octet, whichever it is
-pub room_after : {v vs l : List ℕ} {b at to : ℕ} (x : ℕ) → v ≡ b ∷ vs → Room v at l → to ≤ at + 1 → Room vs to (set l at x)
-room_after {v} {vs} {l} {b} {at} x e h g = record { room = omega (arith, h.room, ap length e, length-set l at x) }
-
 -- one run of stores after another
 pub sets-append : (u v l : List ℕ) (i : ℕ) → sets l i (u ++ v) ≡ sets (sets l i u) (i + length u) v
 sets-append [] v l i = let e : i + 0 ≡ i = omega arith in rw e

@@ -1,40 +1,38 @@
-use mathlib.Core.Path.{◌≡◌, ◌∙◌}
+use mir.Val.{to_z, of_z}
+use mathlib.Core.Path.{◌≡◌}
+use Rattle.ask.proofs.ask.Goals.{in_default-via-in-Octet+in_default, in_default-via-in-Char+in_default, in_default-via-in-Boolean+in_default, in_default-via-in_default}
+use mathlib.Core.Path.{◌∙◌, ap}
 use mir.Syntax.{w32, w64}
-use mir.Val.{SFits, to_z, of_z}
-use Rattle.format.specs.declared.Row.{Row}
-use Rattle.format.specs.declared.As.{As}
-use Rattle.format.specs.Types.{kind_of}
-use Rattle.format.specs.Asking.{ask}
-use Rattle.integer.proofs.Signs.{held}
-use Rattle.ask.specs.declared.Sort.{Sort}
-use Rattle.ask.specs.declared.Sort.TheVariants.{Impossible}
-use Rattle.ask.specs.Sorts.{judged, sort_answer}
-use Rattle.ask.proofs.Answering.{impossible, answers}
 use borrow.Author.Rules.{rules}
+use Rattle.format.specs.Message.{ok}
+use Rattle.format.specs.Asking.{truth}
+use Rattle.integer.proofs.Signs.{held}
+use Rattle.ask.proofs.Answering.{impossible, told, one, not-octet, not-char, not-boolean, narrowed-rest}
 use Rattle.ask.proofs.ask.Goals as goal
 
--- a row that was judged, and found possible
-told : (r : Row) {s : Sort} {w a : As} → SFits w32 r.ty → SFits w64 r.number → s ≡ judged (kind_of (to_z w32 (of_z w32 r.ty))) (to_z w64 (of_z w64 r.number)) → (s ≡ Impossible → ⊥) → w ≡ a
-    → sort_answer s a (to_z w64 (of_z w64 r.number)) ≡ ask w r
-told r f g judge possible e = answers r judge (held f) (held g) e possible
+pub returns-in_err-sort : goal.returns-in_err-sort
+returns-in_err-sort c = search rules ∙ impossible c.args.row c.args.wanted c.judge.ensures c.ok_or.ensures.value (held {w = w32} (search rules)) (held {w = w64} (search rules)) c.in_err-sort.was
 
-pub returns-in-Impossible : goal.returns-in-Impossible
-returns-in-Impossible c = c.refuse.ensures ∙ impossible c.args.row c.judge-sort.ensures (held {w = w32} (search rules)) (held {w = w64} (search rules)) c.args.wanted c.in-Impossible.is
+pub returns-in-Octet-Octet : goal.returns-in-Octet-Octet
+returns-in-Octet-Octet c = rw c.in-Octet-Octet.is-1 (ap ok (held {w = w64} {z = c.args.row.number} (search rules)) ∙ rw (c.in-Octet-Octet.is-0, c.in-Octet-Octet.is-1) at (told c.args.row c.args.wanted c.judge.ensures c.ok_or.ensures.value (held {w = w32} (search rules)) (held {w = w64} (search rules)) c.in_ok-sort.was))
 
-pub returns-in-Int16 : goal.returns-in-Int16
-returns-in-Int16 c = c.int16.ensures ∙ told c.args.row (search rules) (search rules) c.judge-sort.ensures c.in_default.not-Impossible c.in-Int16.is
+pub returns-in-Char-Char : goal.returns-in-Char-Char
+returns-in-Char-Char c = rw c.in-Char-Char.is-1 (ap ok (held {w = w64} {z = c.args.row.number} (search rules)) ∙ rw (c.in-Char-Char.is-0, c.in-Char-Char.is-1) at (told c.args.row c.args.wanted c.judge.ensures c.ok_or.ensures.value (held {w = w32} (search rules)) (held {w = w64} (search rules)) c.in_ok-sort.was))
 
-pub returns-in-Int32 : goal.returns-in-Int32
-returns-in-Int32 c = c.int32.ensures ∙ told c.args.row (search rules) (search rules) c.judge-sort.ensures c.in_default.not-Impossible c.in-Int32.is
+pub returns-in-Boolean-Boolean : goal.returns-in-Boolean-Boolean
+returns-in-Boolean-Boolean c = rw c.in-Boolean-Boolean.is-1 (ap ok (one c.args.row.number (search rules)) ∙ rw (c.in-Boolean-Boolean.is-0, c.in-Boolean-Boolean.is-1) at (told c.args.row c.args.wanted c.judge.ensures c.ok_or.ensures.value (held {w = w32} (search rules)) (held {w = w64} (search rules)) c.in_ok-sort.was))
 
-pub returns-in-Int64 : goal.returns-in-Int64
-returns-in-Int64 c = c.int64.ensures ∙ told c.args.row (search rules) (search rules) c.judge-sort.ensures c.in_default.not-Impossible c.in-Int64.is
+pub returns-in-Null-default : goal.returns-in-Null-default
+returns-in-Null-default c = rw c.in-Null-default.is-0 at (told c.args.row c.args.wanted c.judge.ensures c.ok_or.ensures.value (held {w = w32} (search rules)) (held {w = w64} (search rules)) c.in_ok-sort.was)
 
-pub returns-in-Octet : goal.returns-in-Octet
-returns-in-Octet c = c.octet.ensures ∙ told c.args.row (search rules) (search rules) c.judge-sort.ensures c.in_default.not-Impossible c.in-Octet.is
-
-pub returns-in-Char : goal.returns-in-Char
-returns-in-Char c = c.character.ensures ∙ told c.args.row (search rules) (search rules) c.judge-sort.ensures c.in_default.not-Impossible c.in-Char.is
-
-pub returns-in-Boolean : goal.returns-in-Boolean
-returns-in-Boolean c = c.boolean.ensures ∙ told c.args.row (search rules) (search rules) c.judge-sort.ensures c.in_default.not-Impossible c.in-Boolean.is
+pub returns-in_default : goal.returns-in_default
+returns-in_default c =
+    let z : to_z w64 (of_z w64 c.args.row.number) ≡ c.args.row.number = held {w = w64} (search rules) in
+    let so = told c.args.row c.args.wanted c.judge.ensures c.ok_or.ensures.value (held {w = w32} (search rules)) z c.in_ok-sort.was in
+    let says = rw z at c.narrowed.ensures in
+    elim c.in_default.branch [
+      | in_default-via-in-Octet+in_default w ↦ says ∙ rw w.in_default.is-0 (not-octet c.args.wanted c.args.row.number w.in_default.not-Octet-1) ∙ rw w.in_default.is-0 at so
+      | in_default-via-in-Char+in_default w ↦ says ∙ rw w.in_default.is-0 (not-char c.args.wanted c.args.row.number w.in_default.not-Char-1) ∙ rw w.in_default.is-0 at so
+      | in_default-via-in-Boolean+in_default w ↦ says ∙ rw w.in_default.is-0 (not-boolean c.args.wanted (truth c.args.row.number) w.in_default.not-Boolean-1) ∙ rw w.in_default.is-0 at so
+      | in_default-via-in_default w ↦ says ∙ narrowed-rest c.in_ok-sort.sort c.args.wanted c.args.row.number w.in_default.not-Octet-0 w.in_default.not-Char-0 w.in_default.not-Boolean-0 w.in_default.not-Null-0 ∙ so
+    ]

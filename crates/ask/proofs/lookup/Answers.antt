@@ -1,9 +1,15 @@
 use mathlib.Core.Path.{◌∙◌}
-use Rattle.ask.proofs.Looking.{found, none}
+use lib.Dec.{eqb}
+use Rattle.std.proofs.Common.{rules, tests, Some, None}
+use Rattle.std.proofs.lemmas.Iterator.{YieldsList-from_slice}
+use Rattle.std.proofs.lemmas.Iterator.Search.{find_from_yields_List}
+use Rattle.ask.proofs.Looking.{looked-up}
 use Rattle.ask.proofs.lookup.Goals as goal
 
-pub returns-then-i-rows : goal.returns-then-i-rows
-returns-then-i-rows c = c.ask.ensures ∙ found c.args.rows.now c.args.label c.args.wanted c.find-i.result c.find-i.ensures c.if-i-rows.true
+pub returns-in-Some : goal.returns-in-Some
+returns-in-Some c = c.ask.ensures ∙ looked-up c.args.rows.now c.args.label c.args.wanted (Some c.in-Some.row.now)
+    (rw c.in-Some.is at (find_from_yields_List (λ r. eqb r.label c.args.label) _ _ c.find.result c.find.ensures.ran (YieldsList-from_slice c.args.rows.now cc) (λ x b q k. search (rules, tests))))
 
-pub returns : goal.returns
-returns c = c.refuse.ensures ∙ none c.args.rows.now c.args.label c.args.wanted c.find-i.result c.find-i.ensures c.if-i-rows.false
+pub returns-in-None : goal.returns-in-None
+returns-in-None c = looked-up c.args.rows.now c.args.label c.args.wanted None
+    (rw c.in-None.is at (find_from_yields_List (λ r. eqb r.label c.args.label) _ _ c.find.result c.find.ensures.ran (YieldsList-from_slice c.args.rows.now cc) (λ x b q k. search (rules, tests))))

@@ -1,9 +1,8 @@
 use Prim.Native.Nat.{◌<◌}
 use lib.ListN.{length}
+use Rattle.columns.specs.Lent.{table}
+use Rattle.answers.specs.Replies.{Lent}
 use Rattle.cases.proofs.answer_input.Given as goal
 
-abbrev pub invariant-loop-turns : goal.invariant-loop-turns
-invariant-loop-turns g l = l.held < length l.src
-
-abbrev pub decreases-loop-turns : goal.decreases-loop-turns
-decreases-loop-turns g l = l.turns
+abbrev pub invariant-loop : goal.invariant-loop
+invariant-loop g l = (l.held < length l.src) × Lent (table l.columns)

@@ -13,4 +13,4 @@ pub returns-in-Packed : goal.returns-in-Packed
 returns-in-Packed c = typed-bare (ap says c.in-Packed.is) c.in-Packed.known_told-in-Packed-1-own.given.1.0.1 c.requires
 
 pub returns-in_default : goal.returns-in_default
-returns-in_default c = typed-else _ c.in_default.in_default-own.keys4 c.identifier_at.ensures
+returns-in_default c = typed-else _ c.in_default.in_default-own.keys4 c.int_at.ensures

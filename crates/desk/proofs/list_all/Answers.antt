@@ -10,7 +10,7 @@ pub overflow_add-at : goal.overflow_add-at
 overflow_add-at g c = omega (arith, rest-within c.args.src.now _ c.loop-at.invariant c.list_lines-p.ensures.within)
 
 pub loop-at-smaller : goal.loop-at-smaller
-loop-at-smaller g c = omega (arith, rest-within c.args.src.now _ c.loop-at.invariant c.list_lines-p.ensures.within, c.if-used-eq0.false)
+loop-at-smaller g c = omega (arith, rest-within c.args.src.now _ c.loop-at.invariant c.list_lines-p.ensures.within, c.if-p-eq0.false)
 
 pub loop-at-preserved : goal.loop-at-preserved
 loop-at-preserved g c = rest-within c.args.src.now _ c.loop-at.invariant c.list_lines-p.ensures.within

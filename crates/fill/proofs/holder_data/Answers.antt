@@ -1,21 +1,24 @@
-use mir.Syntax.{w32}
-use Rattle.integer.proofs.Signs.{held}
+use mir.ValLaws.{to_z-of_z}
+use borrow.Author.Rules.{rules}
+use Rattle.fill.proofs.Begins.{ok-was, err-was}
 use Rattle.fill.proofs.Numbers.{elementary-at}
 use Rattle.fill.proofs.Fores.{element-past}
 use Rattle.fill.proofs.Contained.{holder-untyped, holder-untyped-2, holder-unnumbered, holder-read}
 use Rattle.fill.proofs.holder_data.Goals as goal
 
-pub type_at-requires-in-Of : goal.type_at-requires-in-Of
-type_at-requires-in-Of c = (element-past (elementary-at c.type_at.ensures) c.in-Of.is).1
+pub returns-in_err-at2 : goal.returns-in_err-at2
+returns-in_err-at2 c = rw c.from_residual.ensures (holder-untyped c.args.shape (elementary-at c.type_at.ensures) (err-was _ c.ok.ensures.value c.in_err-at2.was).1)
 
-pub returns-in-NoType : goal.returns-in-NoType
-returns-in-NoType c = holder-untyped c.args.shape (elementary-at c.type_at.ensures) c.in-NoType.is
+pub type_at-requires-2 : goal.type_at-requires-2
+type_at-requires-2 c = (element-past (elementary-at c.type_at.ensures) (ok-was _ c.ok.ensures.value c.in_ok-at2.was)).1
 
-pub returns-in-NoType-type_at : goal.returns-in-NoType-type_at
-returns-in-NoType-type_at c = holder-untyped-2 c.args.shape (elementary-at c.type_at.ensures) c.in-Of.is (elementary-at c.type_at-in-Of.ensures) c.in-NoType-type_at.is
+pub returns-in_err-at3 : goal.returns-in_err-at3
+returns-in_err-at3 c = rw c.from_residual-in_err-at3.ensures (holder-untyped-2 c.args.shape (elementary-at c.type_at.ensures) (ok-was _ c.ok.ensures.value c.in_ok-at2.was) (elementary-at c.type_at-2.ensures) (err-was _ c.ok-2.ensures.value c.in_err-at3.was).1)
 
-pub returns-in-NoNumber : goal.returns-in-NoNumber
-returns-in-NoNumber c = holder-unnumbered c.args.shape (elementary-at c.type_at.ensures) c.in-Of.is (elementary-at c.type_at-in-Of.ensures) c.in-Of-type_at.is c.amount_at.ensures c.in-NoNumber.is
+pub returns-in_err-next : goal.returns-in_err-next
+returns-in_err-next c = rw c.from_residual-in_err-next.ensures
+    (holder-unnumbered c.args.shape (elementary-at c.type_at.ensures) (ok-was _ c.ok.ensures.value c.in_ok-at2.was) (elementary-at c.type_at-2.ensures) (ok-was _ c.ok-2.ensures.value c.in_ok-at3.was) c.amount_at.ensures (err-was _ c.ok-3.ensures.value c.in_err-next.was).1)
 
-pub returns-in-Number : goal.returns-in-Number
-returns-in-Number c = holder-read c.args.shape (elementary-at c.type_at.ensures) c.in-Of.is (elementary-at c.type_at-in-Of.ensures) c.in-Of-type_at.is c.amount_at.ensures c.in-Number.is (held {w = w32} (record { sfits = c.in-Of.known_told-1-own.given.1.0.1 })) (held {w = w32} (record { sfits = c.in-Of-type_at.known_told-in-Of-type_at-2-1-own.given.1.0.1 })) c.nest_of.ensures
+pub returns : goal.returns
+returns c = holder-read c.args.shape (elementary-at c.type_at.ensures) (ok-was _ c.ok.ensures.value c.in_ok-at2.was) (elementary-at c.type_at-2.ensures) (ok-was _ c.ok-2.ensures.value c.in_ok-at3.was) c.amount_at.ensures (ok-was _ c.ok-3.ensures.value c.in_ok-next.was)
+    (search (rules, to_z-of_z)) (search (rules, to_z-of_z)) c.nest_of.ensures

@@ -1,10 +1,11 @@
-use mir.Syntax.{w32}
+use mir.ValLaws.{to_z-of_z}
+use borrow.Author.Rules.{rules}
+use Rattle.std.proofs.lemmas.Result.{err_from_is_err_and}
 use Rattle.frame.proofs.Frames.{conversation-refused, conversation-read}
-use Rattle.integer.proofs.Signs.{held}
 use Rattle.frame.proofs.conversation_at.Goals as goal
 
-pub returns-in-Refused32 : goal.returns-in-Refused32
-returns-in-Refused32 c = conversation-refused _ c.int32_at.ensures c.in-Refused32.is
+pub returns-in_err-next : goal.returns-in_err-next
+returns-in_err-next c = let p = err_from_is_err_and c.from_residual.result c.from_residual.ensures.1 in rw (p.1, p.2) (conversation-refused _ c.int_at.ensures c.in_err-next.was)
 
-pub returns-in-Int32 : goal.returns-in-Int32
-returns-in-Int32 c = conversation-read _ c.int32_at.ensures c.in-Int32.is (held {w = w32} (record { sfits = c.in-Int32.known_told-in-Int32-1-own.given.1.0.1 }))
+pub returns : goal.returns
+returns c = conversation-read _ c.int_at.ensures c.in_ok-next.was (search (rules, to_z-of_z))

@@ -1,22 +1,23 @@
-use mir.Syntax.{w32}
-use Rattle.integer.proofs.Signs.{held}
+use Rattle.std.proofs.lemmas.Result.{err_from_is_err_and}
 use Rattle.frame.proofs.Reading.{starts-within, few, read-refused, read-rows, read_short}
 use Rattle.frame.proofs.read_frame.Goals as goal
 
 pub slice_bounds-store_rows-count : goal.slice_bounds-store_rows-count
-slice_bounds-store_rows-count c = starts-within _ c.check_frame.ensures c.in-Rows.is (λ i. (c.type_inv.src i).fits)
+slice_bounds-store_rows-count c = starts-within _ c.check_frame.ensures c.in_ok-frame.was (λ i. (c.type_inv.src i).fits)
 
 pub slice_bounds-store_rows-start : goal.slice_bounds-store_rows-start
-slice_bounds-store_rows-start c = starts-within _ c.check_frame.ensures c.in-Rows.is (λ i. (c.type_inv.src i).fits)
+slice_bounds-store_rows-start c = starts-within _ c.check_frame.ensures c.in_ok-frame.was (λ i. (c.type_inv.src i).fits)
 
 pub store_rows-requires : goal.store_rows-requires
-store_rows-requires c = few _ c.check_frame.ensures c.in-Rows.is (λ i. (c.type_inv.src i).fits)
+store_rows-requires c = few _ c.check_frame.ensures c.in_ok-frame.was (λ i. (c.type_inv.src i).fits)
 
-pub returns-then-store_rows : goal.returns-then-store_rows
-returns-then-store_rows c = read-rows _ _ c.check_frame.ensures c.in-Rows.is (λ i. (c.type_inv.src i).fits) (held {w = w32} (record { sfits = c.in-Rows.known_told-in-Rows-1-own.given.1.1.0.1 })) c.store_rows.ensures c.if-store_rows.true
+pub returns-in_err-frame-clause-read : goal.returns-in_err-frame-clause-read
+returns-in_err-frame-clause-read c = let p = err_from_is_err_and c.from_residual.result c.from_residual.ensures.1 in rw (p.1, p.2) (read-refused _ _ c.check_frame.ensures c.in_err-frame.was)
 
-pub returns-in-Refused : goal.returns-in-Refused
-returns-in-Refused c = read-refused _ _ c.check_frame.ensures c.in-Refused.is
+pub returns-in_err-store_rows-clause-read : goal.returns-in_err-store_rows-clause-read
+returns-in_err-store_rows-clause-read c =
+    let p = err_from_is_err_and c.from_residual-in_err-store_rows.result c.from_residual-in_err-store_rows.ensures.1 in
+    rw (p.1, p.2) (read_short _ _ c.check_frame.ensures c.in_ok-frame.was (λ i. (c.type_inv.src i).fits) c.store_rows.ensures.stored c.in_err-store_rows.was)
 
-pub returns-else-store_rows : goal.returns-else-store_rows
-returns-else-store_rows c = read_short _ _ c.check_frame.ensures c.in-Rows.is (λ i. (c.type_inv.src i).fits) c.store_rows.ensures c.if-store_rows.false
+pub returns-clause-read : goal.returns-clause-read
+returns-clause-read c = read-rows _ _ c.check_frame.ensures c.in_ok-frame.was (λ i. (c.type_inv.src i).fits) c.store_rows.ensures.stored c.in_ok-store_rows.was

@@ -1,3 +1,4 @@
+use Rattle.std.proofs.Common.{rules, ◌≡◌, Err}
 use Rattle.integer.proofs.Spelling.{one-positive, one-negative, more-positive, more-negative}
 use Rattle.integer.proofs.Spelling.{one-positive, one-negative}
 use mathlib.Core.Path.{sym}
@@ -17,16 +18,18 @@ pub returns-then-b-lt128 : goal.returns-then-b-lt128
 returns-then-b-lt128 c = record { same = λ e. told (one-negative _ c.if-b-lt64.false c.if-b-lt128.true) (integer-one wide32 _ _ e (lit≤ tt) (omega arith) c.if-b-lt128.true); past = omega arith }
 
 pub overflow_cast-result-then-b-lt192 : goal.overflow_cast-result-then-b-lt192
-overflow_cast-result-then-b-lt192 c = omega (arith, (found-past {w = wide32} c.tail_at.ensures (omega arith) c.if-b-lt128.false c.in-Mag.is).2)
+overflow_cast-result-then-b-lt192 c = omega (arith, (found-past {w = wide32} c.tail_at.ensures (omega arith) c.if-b-lt128.false c.in_ok-next.was).2)
 
 pub returns-then-b-lt192 : goal.returns-then-b-lt192
-returns-then-b-lt192 c = record { same = λ e. told (more-positive _ _ c.if-b-lt128.false c.if-b-lt192.true) (found-mag {w = wide32} c.tail_at.ensures (omega arith) c.if-b-lt128.false c.in-Mag.is e); past = found-past {w = wide32} c.tail_at.ensures (omega arith) c.if-b-lt128.false c.in-Mag.is }
+returns-then-b-lt192 c = record { same = λ e. told (more-positive _ _ c.if-b-lt128.false c.if-b-lt192.true) (found-mag {w = wide32} c.tail_at.ensures (omega arith) c.if-b-lt128.false c.in_ok-next.was e); past = found-past {w = wide32} c.tail_at.ensures (omega arith) c.if-b-lt128.false c.in_ok-next.was }
 
-pub overflow_cast-result-in-Mag : goal.overflow_cast-result-in-Mag
-overflow_cast-result-in-Mag c = omega (arith, (found-past {w = wide32} c.tail_at.ensures (omega arith) c.if-b-lt128.false c.in-Mag.is).2)
+pub overflow_cast-result-2 : goal.overflow_cast-result-2
+overflow_cast-result-2 c = omega (arith, (found-past {w = wide32} c.tail_at.ensures (omega arith) c.if-b-lt128.false c.in_ok-next.was).2)
 
-pub returns-else-b-lt192 : goal.returns-else-b-lt192
-returns-else-b-lt192 c = record { same = λ e. told (more-negative _ _ c.if-b-lt192.false (c.type_inv.src _).fits) (found-mag {w = wide32} c.tail_at.ensures (omega arith) c.if-b-lt128.false c.in-Mag.is e); past = found-past {w = wide32} c.tail_at.ensures (omega arith) c.if-b-lt128.false c.in-Mag.is }
+pub returns : goal.returns
+returns c = record { same = λ e. told (more-negative _ _ c.if-b-lt192.false (c.type_inv.src _).fits) (found-mag {w = wide32} c.tail_at.ensures (omega arith) c.if-b-lt128.false c.in_ok-next.was e); past = found-past {w = wide32} c.tail_at.ensures (omega arith) c.if-b-lt128.false c.in_ok-next.was }
 
-pub returns-in-Ill : goal.returns-in-Ill
-returns-in-Ill c = record { same = λ e. sym (found-ill {w = wide32} c.tail_at.ensures (omega arith) c.if-b-lt128.false c.in-Ill.is e); past = tt }
+pub returns-in_err-next : goal.returns-in_err-next
+returns-in_err-next c =
+    let q : c.from_residual.result ≡ Err c.in_err-next.field-0.0 = search rules in
+    rw q (record { same = λ e. sym (found-ill {w = wide32} c.tail_at.ensures (omega arith) c.if-b-lt128.false c.in_err-next.was e); past = tt })

@@ -1,11 +1,10 @@
 use Prim.Native.Nat.{◌-◌}
-use mathlib.Core.Path.{◌≡◌}
 use lib.ListN.{length}
 use Rattle.listing.proofs.Lines.{Going}
 use Rattle.listing.proofs.list_lines.Given as goal
 
 abbrev pub invariant-loop-out : goal.invariant-loop-out
-invariant-loop-out l = (l.n ≡ length l.src) × Going l.src l.initial.out l.used l.written l.out
+invariant-loop-out l = Going l.src l.initial.out l.used l.written l.out
 
 abbrev pub decreases-loop-out : goal.decreases-loop-out
 decreases-loop-out l = length l.src - l.used

@@ -1,75 +1,45 @@
-use mathlib.Core.Path.{refl}
-use Rattle.measure.proofs.Cycle.{looking-first, looking-can-read, looking-again, turning-less, held-halted, held-ended, held-stopped, can-end, value-deep, value-refused, value-single, value-nested, value-can-hold, ran-onto, ran-halted, run-most, run-ahead, turned-deep, turned-plan, read-mixed, read-deep, rises, sinks, some_level, rows_fit, single-fits}
+use mathlib.Core.Path.{refl, ap, ◌∙◌}
+use Rattle.std.proofs.Common.{arith, rules, ◌≡◌, Ok, Err}
+use Rattle.measure.proofs.Cycle.{looking-can-read, looking-again, held-halted, held-ended, held-stopped, value-deep, value-refused, value-single, value-nested, ran-onto, ran-halted, turned-deep, turned-plan, read-mixed, read-deep}
 use Rattle.measure.proofs.+elements_value.Goals as goal
 
-pub elements-open_id-requires : goal.elements-open_id-requires
-elements-open_id-requires t c = (c.requires.good, c.requires.room)
-
-pub elements-loop-r-init : goal.elements-loop-r-init
-elements-loop-r-init t c = looking-first c.requires c.open_id.ensures c.run_in-run.ensures
-
-pub elements-next_at-requires : goal.elements-next_at-requires
-elements-next_at-requires t c = (c.loop-r.invariant.turning.within, c.loop-r.invariant.turning.small, c.loop-r.invariant.by_position)
-
-pub elements-returns-in-Halt : goal.elements-returns-in-Halt
-elements-returns-in-Halt t c = held-halted _ c.requires c.open_id.ensures c.loop-r.invariant.turning c.next_at.ensures c.in-Halt.is
-
-pub elements-end_id-requires : goal.elements-end_id-requires
-elements-end_id-requires t c = can-end _ c.requires c.open_id.ensures c.loop-r.invariant.turning c.next_at.ensures
+pub elements-returns-in_err-coming : goal.elements-returns-in_err-coming
+elements-returns-in_err-coming t c =
+    let q : c.from_residual.result ≡ Err c.in_err-coming.field-0.0 = search rules in
+    rw q (held-halted _ c.requires c.open.ensures c.loop-coming.invariant.turning c.next_at.ensures c.in_err-coming.was)
 
 pub elements-returns-in-End : goal.elements-returns-in-End
-elements-returns-in-End t c = held-ended _ c.requires c.open_id.ensures c.loop-r.invariant.turning c.next_at.ensures c.in-End.is c.end_id.ensures
+elements-returns-in-End t c = held-ended _ c.requires c.open.ensures c.loop-coming.invariant.turning c.next_at.ensures (c.in_ok-coming.was ∙ ap Ok c.in-End.is) c.close.ensures
 
 pub elements-value-requires : goal.elements-value-requires
-elements-value-requires t c = (rises _ c.decreases, looking-can-read c.loop-r.invariant c.next_at.ensures c.in-Value.is)
+elements-value-requires t c = (omega (arith, c.decreases), looking-can-read c.loop-coming.invariant c.next_at.ensures (c.in_ok-coming.was ∙ ap Ok c.in-Value.is))
 
-pub elements-returns-in-Stop : goal.elements-returns-in-Stop
-elements-returns-in-Stop t c = held-stopped _ c.requires c.open_id.ensures c.loop-r.invariant.turning c.next_at.ensures c.in-Value.is refl c.value.ensures.read c.in-Stop.is
+pub elements-returns-in_err-there-in-Value : goal.elements-returns-in_err-there-in-Value
+elements-returns-in_err-there-in-Value t c =
+    let q : c.from_residual-in_err-there-in-Value.result ≡ Err c.in_err-there-in-Value.field-0.0 = search rules in
+    rw q (held-stopped _ c.requires c.open.ensures c.loop-coming.invariant.turning c.next_at.ensures (c.in_ok-coming.was ∙ ap Ok c.in-Value.is) refl c.value.ensures.read c.in_err-there-in-Value.was)
 
-pub elements-loop-r-smaller : goal.elements-loop-r-smaller
-elements-loop-r-smaller t c = turning-less c.loop-r.invariant.turning c.next_at.ensures c.in-Value.is
-
-pub elements-loop-r-preserved : goal.elements-loop-r-preserved
-elements-loop-r-preserved t c = looking-again c.loop-r.invariant c.next_at.ensures c.in-Value.is c.value.ensures c.in-On.is
-
-pub value-too_deep-requires : goal.value-too_deep-requires
-value-too_deep-requires t c = c.requires.can.within
+pub elements-loop-coming-preserved : goal.elements-loop-coming-preserved
+elements-loop-coming-preserved t c = looking-again c.loop-coming.invariant c.next_at.ensures (c.in_ok-coming.was ∙ ap Ok c.in-Value.is) c.value.ensures c.in_ok-there-in-Value.was
 
 pub value-returns-then-depth-eq0 : goal.value-returns-then-depth-eq0
-value-returns-then-depth-eq0 t c = read-deep (value-deep _ _ _ _ _ _ c.if-depth-eq0.true (turned-deep c.turn_of.ensures c.too_deep.ensures))
+value-returns-then-depth-eq0 t c = read-deep (value-deep _ _ _ _ _ _ c.if-depth-eq0.true (turned-deep c.form_at.ensures c.too_deep.ensures))
 
-pub value-int_ahead-requires : goal.value-int_ahead-requires
-value-int_ahead-requires t c = (c.requires.can.within, c.requires.can.short, run-most c.requires c.in-Integers.is, run-ahead c.requires c.in-Integers.is)
+pub value-returns-in_err-next-in-Some : goal.value-returns-in_err-next-in-Some
+value-returns-in_err-next-in-Some t c =
+    let q : c.from_residual.result ≡ Err c.in_err-next-in-Some.field-0.0 = search rules in
+    rw q (ran-halted c.requires c.in-Some.is (omega (arith, c.if-depth-eq0.false)) c.int_ahead.ensures c.in_err-next-in-Some.was)
 
-pub value-overflow_add-result : goal.value-overflow_add-result
-value-overflow_add-result t c = record { fits = rows_fit c.requires.can }
+pub value-returns-in_ok-next-in-Some : goal.value-returns-in_ok-next-in-Some
+value-returns-in_ok-next-in-Some t c = ran-onto c.requires c.in-Some.is (omega (arith, c.if-depth-eq0.false)) c.int_ahead.ensures c.in_ok-next-in-Some.was
 
-pub value-plan_at-requires : goal.value-plan_at-requires
-value-plan_at-requires t c = (c.requires.can.within, c.requires.can.good)
-
-pub value-overflow_add-result-in-Single : goal.value-overflow_add-result-in-Single
-value-overflow_add-result-in-Single t c = record { fits = single-fits c.requires.can (turned-plan c.turn_of-in-Mixed.ensures c.plan_at.ensures) c.in-Single.is }
-
-pub value-overflow_add-rows : goal.value-overflow_add-rows
-value-overflow_add-rows t c = record { fits = rows_fit c.requires.can }
-
-pub value-overflow_sub-depth : goal.value-overflow_sub-depth
-value-overflow_sub-depth t c = some_level c.if-depth-eq0.false
-
-pub value-elements-requires : goal.value-elements-requires
-value-elements-requires t c = (sinks _ c.decreases c.if-depth-eq0.false, value-can-hold _ _ _ _ _ _ (turned-plan c.turn_of-in-Mixed.ensures c.plan_at.ensures) (some_level c.if-depth-eq0.false) c.in-Inner.is c.requires.can)
-
-pub value-returns-in-Halted : goal.value-returns-in-Halted
-value-returns-in-Halted t c = ran-halted c.requires (some_level c.if-depth-eq0.false) c.in-Integers.is c.int_ahead.ensures c.in-Halted.is
-
-pub value-returns-in-Onto : goal.value-returns-in-Onto
-value-returns-in-Onto t c = ran-onto c.requires (some_level c.if-depth-eq0.false) c.in-Integers.is c.int_ahead.ensures c.in-Onto.is
-
-pub value-returns-in-Refuse : goal.value-returns-in-Refuse
-value-returns-in-Refuse t c = read-mixed c.in-Mixed.is (value-refused _ _ _ _ _ _ (turned-plan c.turn_of-in-Mixed.ensures c.plan_at.ensures) (some_level c.if-depth-eq0.false) c.in-Refuse.is)
+pub value-returns-in_err-plan-in-None : goal.value-returns-in_err-plan-in-None
+value-returns-in_err-plan-in-None t c =
+    let q : c.from_residual-in_err-plan-in-None.result ≡ Err c.in_err-plan-in-None.field-0.0 = search rules in
+    rw q (read-mixed c.in-None.is (value-refused _ _ _ _ _ _ (turned-plan c.form_at-in-None.ensures c.plan_at.ensures) (omega (arith, c.if-depth-eq0.false)) c.in_err-plan-in-None.was))
 
 pub value-returns-in-Single : goal.value-returns-in-Single
-value-returns-in-Single t c = read-mixed c.in-Mixed.is (value-single _ _ _ _ _ _ (turned-plan c.turn_of-in-Mixed.ensures c.plan_at.ensures) (some_level c.if-depth-eq0.false) c.in-Single.is c.requires.can)
+value-returns-in-Single t c = read-mixed c.in-None.is (value-single _ _ _ _ _ _ (turned-plan c.form_at-in-None.ensures c.plan_at.ensures) (omega (arith, c.if-depth-eq0.false)) (c.in_ok-plan-in-None.was ∙ ap Ok c.in-Single.is) c.requires.can)
 
 pub value-returns-in-Inner : goal.value-returns-in-Inner
-value-returns-in-Inner t c = read-mixed c.in-Mixed.is (value-nested _ _ _ _ _ _ (turned-plan c.turn_of-in-Mixed.ensures c.plan_at.ensures) (some_level c.if-depth-eq0.false) c.in-Inner.is c.requires.can c.elements.ensures)
+value-returns-in-Inner t c = read-mixed c.in-None.is (value-nested _ _ _ _ _ _ (turned-plan c.form_at-in-None.ensures c.plan_at.ensures) (omega (arith, c.if-depth-eq0.false)) (c.in_ok-plan-in-None.was ∙ ap Ok c.in-Inner.is) c.requires.can c.elements.ensures)

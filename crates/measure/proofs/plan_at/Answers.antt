@@ -1,11 +1,11 @@
-use Rattle.measure.proofs.Values.{value-odd, class-past, value-classed}
+use Rattle.std.proofs.Common.{rules, ◌≡◌, Err}
+use Rattle.measure.proofs.Values.{value-odd, value-classed}
 use Rattle.measure.proofs.plan_at.Goals as goal
 
-pub data_plan-requires : goal.data_plan-requires
-data_plan-requires c = (class-past c.class_at.ensures c.in-Data.is, c.requires.1)
+pub returns-in_err-from : goal.returns-in_err-from
+returns-in_err-from c =
+    let q : c.from_residual.result ≡ Err c.in_err-from.field-0.0 = search rules in
+    rw q (value-odd c.class_at.ensures c.in_err-from.was)
 
-pub returns-in-Unclassed : goal.returns-in-Unclassed
-returns-in-Unclassed c = value-odd c.class_at.ensures c.in-Unclassed.is
-
-pub returns-in-Data : goal.returns-in-Data
-returns-in-Data c = value-classed c.requires.0 c.class_at.ensures c.in-Data.is c.once_of.ensures c.data_plan.ensures
+pub returns : goal.returns
+returns c = value-classed c.requires c.class_at.ensures c.in_ok-from.was c.once_of.ensures c.data_plan.ensures

@@ -1,14 +1,17 @@
+use Rattle.std.proofs.lemmas.Result.{err_from_is_err_and}
 use Rattle.message.proofs.Messages.{few, read-refused, read-rows, read_short}
 use Rattle.message.proofs.read_message.Goals as goal
 
 pub store_rows-requires : goal.store_rows-requires
-store_rows-requires c = few _ c.count_rows.ensures c.in-Amount.is (λ i. (c.type_inv.src i).fits)
+store_rows-requires c = few _ c.count_rows.ensures c.in_ok-n.was (λ i. (c.type_inv.src i).fits)
 
-pub returns-then-store_rows : goal.returns-then-store_rows
-returns-then-store_rows c = read-rows _ _ c.count_rows.ensures c.in-Amount.is (λ i. (c.type_inv.src i).fits) c.store_rows.ensures c.if-store_rows.true
+pub returns-in_err-n-clause-read : goal.returns-in_err-n-clause-read
+returns-in_err-n-clause-read c = let p = err_from_is_err_and c.from_residual.result c.from_residual.ensures.1 in rw (p.1, p.2) (read-refused _ _ c.count_rows.ensures c.in_err-n.was)
 
-pub returns-in-Refused : goal.returns-in-Refused
-returns-in-Refused c = read-refused _ _ c.count_rows.ensures c.in-Refused.is
+pub returns-in_err-store_rows-clause-read : goal.returns-in_err-store_rows-clause-read
+returns-in_err-store_rows-clause-read c =
+    let p = err_from_is_err_and c.from_residual-in_err-store_rows.result c.from_residual-in_err-store_rows.ensures.1 in
+    rw (p.1, p.2) (read_short _ _ c.count_rows.ensures c.in_ok-n.was (λ i. (c.type_inv.src i).fits) c.store_rows.ensures.stored c.in_err-store_rows.was)
 
-pub returns-else-store_rows : goal.returns-else-store_rows
-returns-else-store_rows c = read_short _ _ c.count_rows.ensures c.in-Amount.is (λ i. (c.type_inv.src i).fits) c.store_rows.ensures c.if-store_rows.false
+pub returns-clause-read : goal.returns-clause-read
+returns-clause-read c = read-rows _ _ c.count_rows.ensures c.in_ok-n.was (λ i. (c.type_inv.src i).fits) c.store_rows.ensures.stored c.in_ok-store_rows.was

@@ -1,34 +1,26 @@
-use mathlib.Core.Path.{sym, ◌∙◌}
-use Rattle.queries.specs.declared.Word.TheVariants.{Names, Not}
+use mathlib.Core.Path.{ap, ◌∙◌}
+use mir.Syntax.{w128}
+use Rattle.integer.proofs.Signs.{held}
+use Rattle.queries.specs.Queries.{answer}
+use borrow.Author.Rules.{rules}
+use Rattle.std.specs.Prelude.{Some, None}
 use Rattle.queries.proofs.Outcomes.{first-not, fourth-none, fourth-not, last_none, word_read}
 use Rattle.queries.proofs.ask_line.Goals as goal
 
-pub returns-in_default : goal.returns-in_default
-returns-in_default c = first-not c.args.line.now (rw c.in_default.is at c.number_at.ensures)
+pub returns-in_err-ty : goal.returns-in_err-ty
+returns-in_err-ty c = search rules ∙ first-not c.args.line.now c.in_err-ty.ensures
 
-pub pass-requires : goal.pass-requires
-pass-requires c = (rw c.in-Past.is at c.number_at.ensures).within
+pub returns-in_err-fourth : goal.returns-in_err-fourth
+returns-in_err-fourth c = search rules ∙ fourth-none c.args.line.now c.in_ok-ty.ensures c.in_err-fourth.ensures
 
-pub returns-in_default-pass : goal.returns-in_default-pass
-returns-in_default-pass c = fourth-none c.args.line.now (rw c.in-Past.is at c.number_at.ensures) (rw c.in_default-pass.is at c.pass.ensures)
+pub returns-in_err-number : goal.returns-in_err-number
+returns-in_err-number c = search rules ∙ fourth-not c.args.line.now c.in_ok-ty.ensures c.in_ok-fourth.fourth c.in_ok-fourth.ensures.0 c.in_err-number.ensures
 
-pub number_at-requires-2 : goal.number_at-requires-2
-number_at-requires-2 c = (rw c.in-At.is at c.pass.ensures).1
+pub returns-in_err-last : goal.returns-in_err-last
+returns-in_err-last c = search rules ∙ last_none c.args.line.now c.in_ok-ty.ensures c.in_ok-fourth.fourth c.in_ok-fourth.ensures.0 c.in_ok-number.ensures c.in_err-last.ensures
 
-pub returns-in_default-number_at : goal.returns-in_default-number_at
-returns-in_default-number_at c = fourth-not c.args.line.now (rw c.in-Past.is at c.number_at.ensures) c.in-At.fourth (rw c.in-At.is at c.pass.ensures).0 (rw c.in_default-number_at.is at c.number_at-2.ensures)
+pub returns-in_err-wanted : goal.returns-in_err-wanted
+returns-in_err-wanted c = search rules ∙ word_read c.args.line.now c.in_ok-ty.ensures c.in_ok-fourth.fourth c.in_ok-fourth.ensures.0 c.in_ok-number.ensures c.in_ok-last.last c.in_ok-last.ensures.0 None c.in_err-wanted.ensures
 
-pub pass-requires-2 : goal.pass-requires-2
-pass-requires-2 c = (rw c.in-Past-number_at.is at c.number_at-2.ensures).within
-
-pub returns-in_default-pass-2 : goal.returns-in_default-pass-2
-returns-in_default-pass-2 c = last_none c.args.line.now (rw c.in-Past.is at c.number_at.ensures) c.in-At.fourth (rw c.in-At.is at c.pass.ensures).0 (rw c.in-Past-number_at.is at c.number_at-2.ensures) (rw c.in_default-pass-2.is at c.pass-2.ensures)
-
-pub last_word-requires : goal.last_word-requires
-last_word-requires c = (rw c.in-At-pass.is at c.pass-2.ensures).1
-
-pub returns-in-Not : goal.returns-in-Not
-returns-in-Not c = word_read c.args.line.now (rw c.in-Past.is at c.number_at.ensures) c.in-At.fourth (rw c.in-At.is at c.pass.ensures).0 (rw c.in-Past-number_at.is at c.number_at-2.ensures) c.in-At-pass.last (rw c.in-At-pass.is at c.pass-2.ensures).0 Not (sym c.in-Not.is ∙ c.last_word.ensures)
-
-pub returns-in-Names : goal.returns-in-Names
-returns-in-Names c = c.ask_row.ensures ∙ word_read c.args.line.now (rw c.in-Past.is at c.number_at.ensures) c.in-At.fourth (rw c.in-At.is at c.pass.ensures).0 (rw c.in-Past-number_at.is at c.number_at-2.ensures) c.in-At-pass.last (rw c.in-At-pass.is at c.pass-2.ensures).0 (Names c.in-Names.wanted) (sym c.in-Names.is ∙ c.last_word.ensures)
+pub returns : goal.returns
+returns c = ap answer (rw (held {w = w128} {z = c.in_ok-ty.ty} (search rules), held {w = w128} {z = c.in_ok-number.number} (search rules)) at c.ask_row.ensures) ∙ word_read c.args.line.now c.in_ok-ty.ensures c.in_ok-fourth.fourth c.in_ok-fourth.ensures.0 c.in_ok-number.ensures c.in_ok-last.last c.in_ok-last.ensures.0 (Some c.in_ok-wanted.wanted) c.in_ok-wanted.ensures

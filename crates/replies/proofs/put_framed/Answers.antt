@@ -1,25 +1,17 @@
-use mathlib.Core.Path.{refl}
-use native.Mathlib.Omega.{arith}
-use lib.ListN.{length-set}
-use Rattle.text.proofs.Signs.{wide, wide_fits}
-use Rattle.text.proofs.Writes.{left-part, left-fits, left-none}
-use Rattle.replies.proofs.Texts.{framed-begun, framed-short, room, listed}
+use mathlib.Core.List.{[], ◌∷◌}
+use lib.IntN.{pos}
+use Rattle.text.proofs.Signs.{wide}
+use Rattle.replies.proofs.Texts.{framed-short, word-room, word-put, number-fits, number-put, numbers-put, listed}
 use Rattle.replies.proofs.put_framed.Goals as goal
 
-pub bounds-out-at-2 : goal.bounds-out-at-2
-bounds-out-at-2 c = simp length-set (omega arith)
+pub put_text-next-requires : goal.put_text-next-requires
+put_text-next-requires c = word-room 0x6F 0x6B (c.args.conversation ∷ pos c.args.rows ∷ []) (framed-short _ _ c.ranges.conversation.sfits c.ranges.rows.fits) c.requires
 
-pub bounds-out-at-3 : goal.bounds-out-at-3
-bounds-out-at-3 c = simp length-set (omega arith)
-
-pub overflow_cast-conversation : goal.overflow_cast-conversation
-overflow_cast-conversation c = wide_fits _ c.ranges.conversation
-
-pub put_number-next-requires : goal.put_number-next-requires
-put_number-next-requires c = rw (wide _ c.ranges.conversation) (left-fits (framed-begun c.args.conversation c.args.rows (room c.args.at c.args.out.now (framed-short _ _ c.ranges.conversation.sfits c.ranges.rows.fits) c.requires)) _ _ refl)
+pub put_spaced-mid-requires : goal.put_spaced-mid-requires
+put_spaced-mid-requires c = rw (wide _ c.ranges.conversation) (number-fits _ _ (word-put 0x6F 0x6B (c.args.conversation ∷ pos c.args.rows ∷ []) (framed-short _ _ c.ranges.conversation.sfits c.ranges.rows.fits) c.requires c.put_text-next.ensures))
 
 pub put_count-requires : goal.put_count-requires
-put_count-requires c = left-fits (left-part (framed-begun c.args.conversation c.args.rows (room c.args.at c.args.out.now (framed-short _ _ c.ranges.conversation.sfits c.ranges.rows.fits) c.requires)) _ refl (rw (wide _ c.ranges.conversation) at c.put_number-next.ensures)) _ _ refl
+put_count-requires c = number-fits _ _ (number-put _ _ (word-put 0x6F 0x6B (c.args.conversation ∷ pos c.args.rows ∷ []) (framed-short _ _ c.ranges.conversation.sfits c.ranges.rows.fits) c.requires c.put_text-next.ensures) (rw (wide _ c.ranges.conversation) at c.put_spaced-mid.ensures))
 
 pub returns : goal.returns
-returns c = listed (framed-short _ _ c.ranges.conversation.sfits c.ranges.rows.fits) (left-none (left-part (left-part (framed-begun c.args.conversation c.args.rows (room c.args.at c.args.out.now (framed-short _ _ c.ranges.conversation.sfits c.ranges.rows.fits) c.requires)) _ refl (rw (wide _ c.ranges.conversation) at c.put_number-next.ensures)) _ refl c.put_count.ensures) refl)
+returns c = listed (framed-short _ _ c.ranges.conversation.sfits c.ranges.rows.fits) (numbers-put (number-put _ _ (number-put _ _ (word-put 0x6F 0x6B (c.args.conversation ∷ pos c.args.rows ∷ []) (framed-short _ _ c.ranges.conversation.sfits c.ranges.rows.fits) c.requires c.put_text-next.ensures) (rw (wide _ c.ranges.conversation) at c.put_spaced-mid.ensures)) c.put_count.ensures))

@@ -1,19 +1,13 @@
-use mathlib.Core.Path.{refl}
-use native.Mathlib.Omega.{arith}
-use lib.ListN.{length-set}
+use mathlib.Core.List.{[], ◌∷◌}
 use Rattle.integer.proofs.Signs.{held}
-use Rattle.text.proofs.Writes.{left-part, left-fits, left-none}
-use Rattle.replies.proofs.Texts.{value-begun, value-short, room, listed}
+use Rattle.replies.proofs.Texts.{value-short, word-room, word-put, number-fits, number-put, numbers-put, listed}
 use Rattle.replies.proofs.put_value.Goals as goal
 
-pub bounds-out-at-2 : goal.bounds-out-at-2
-bounds-out-at-2 c = simp length-set (omega arith)
+pub put_text-next-requires : goal.put_text-next-requires
+put_text-next-requires c = word-room 0x6F 0x6B (c.args.v ∷ []) (value-short _ c.ranges.v.sfits) c.requires
 
-pub bounds-out-at-3 : goal.bounds-out-at-3
-bounds-out-at-3 c = simp length-set (omega arith)
-
-pub put_number-requires : goal.put_number-requires
-put_number-requires c = rw (held c.ranges.v) (left-fits (value-begun c.args.v (room c.args.at c.args.out.now (value-short _ c.ranges.v.sfits) c.requires)) _ _ refl)
+pub put_spaced-requires : goal.put_spaced-requires
+put_spaced-requires c = rw (held c.ranges.v) (number-fits _ _ (word-put 0x6F 0x6B (c.args.v ∷ []) (value-short _ c.ranges.v.sfits) c.requires c.put_text-next.ensures))
 
 pub returns : goal.returns
-returns c = listed (value-short _ c.ranges.v.sfits) (left-none (left-part (value-begun c.args.v (room c.args.at c.args.out.now (value-short _ c.ranges.v.sfits) c.requires)) _ refl (rw (held c.ranges.v) at c.put_number.ensures)) refl)
+returns c = listed (value-short _ c.ranges.v.sfits) (numbers-put (number-put _ _ (word-put 0x6F 0x6B (c.args.v ∷ []) (value-short _ c.ranges.v.sfits) c.requires c.put_text-next.ensures) (rw (held c.ranges.v) at c.put_spaced.ensures)))

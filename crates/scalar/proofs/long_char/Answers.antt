@@ -9,8 +9,8 @@ returns-then-not-begins c = outside-refused _ _ c.requires.0 c.requires.1 (sym c
 pub returns-then-src-at : goal.returns-then-src-at
 returns-then-src-at c = cut-refused _ _ c.requires.0 c.requires.1 (sym c.begins.ensures ∙ c.if-not-begins.false) (omega (arith, c.size_of.ensures))
 
-pub returns-then-n-eq0 : goal.returns-then-n-eq0
-returns-then-n-eq0 c = misspelt-refused _ _ c.requires.0 c.requires.1 (sym c.begins.ensures ∙ c.if-not-begins.false) (omega (arith, c.size_of.ensures)) c.spelling-n.ensures c.if-n-eq0.true
+pub returns-in_default : goal.returns-in_default
+returns-in_default c = misspelt-refused _ _ c.requires.0 c.requires.1 (sym c.begins.ensures ∙ c.if-not-begins.false) (omega (arith, c.size_of.ensures)) c.spelling.ensures c.in_default.is
 
 pub returns : goal.returns
-returns c = spelt-passed _ _ c.requires.0 c.requires.1 (sym c.begins.ensures ∙ c.if-not-begins.false) (omega (arith, c.size_of.ensures)) c.spelling-n.ensures c.if-n-eq0.false
+returns c = spelt-passed _ _ c.requires.0 c.requires.1 (sym c.begins.ensures ∙ c.if-not-begins.false) (omega (arith, c.size_of.ensures)) c.spelling.ensures c.in-Some.is

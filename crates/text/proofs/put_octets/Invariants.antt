@@ -1,11 +1,7 @@
-use Prim.Native.Nat.{◌≤◌, ◌-◌}
 use lib.ListN.{drop}
 use Rattle.format.specs.Desk.{octets_of}
 use Rattle.text.proofs.Writes.{Left}
 use Rattle.text.proofs.put_octets.Given as goal
 
 abbrev pub invariant-loop-i : goal.invariant-loop-i
-invariant-loop-i l = (l.i ≤ l.n) × Left (octets_of l.line) 0 l.initial.out (drop l.i (octets_of l.line)) l.i l.out
-
-abbrev pub decreases-loop-i : goal.decreases-loop-i
-decreases-loop-i l = l.n - l.i
+invariant-loop-i l = Left (octets_of l.line) 0 l.initial.out (drop l.i (octets_of l.line)) l.i l.out

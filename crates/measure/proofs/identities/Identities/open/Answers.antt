@@ -1,0 +1,12 @@
+use Rattle.std.proofs.Common.{◌≡◌, ◌+◌, ◌≤◌, refl, subst, ℕ, length, arith, rules}
+use Rattle.std.specs.Prelude.{Option}
+use Rattle.measure.specs.Identities.{one}
+use Rattle.measure.proofs.Ids.{opened}
+use Rattle.measure.proofs.identities.Identities.open.Goals as goal
+
+pub returns-in-Some : goal.returns-in-Some
+returns-in-Some c =
+    let l = c.args.self.now in
+    let long : length l.given ≡ 64 = search rules in
+    let room = subst (λ (i : Option ℕ). l.given_count + one i ≤ 64) c.in-Some.is c.requires in
+    opened l _ c.in-Some.is (omega (arith, room, l.few)) refl refl refl refl

@@ -1,7 +1,0 @@
-use Rattle.measure.proofs.passed.Goals as goal
-
-pub returns-in-Past : goal.returns-in-Past
-returns-in-Past c = rw c.in-Past.is
-
-pub returns-in-Refused : goal.returns-in-Refused
-returns-in-Refused c = rw c.in-Refused.is

@@ -1,6 +1,0 @@
-use Rattle.text.proofs.Lines.{others_same}
-use borrow.Author.Rules.{rules}
-use Rattle.text.proofs.others_of.Goals as goal
-
-pub returns : goal.returns
-returns c = others_same {r = c.args.r} (record { ty = search rules; own = search rules; label = search rules; number = search rules; first = search rules; second = search rules; place = search rules; below = search rules; start = search rules; end = search rules })
