@@ -1,31 +1,29 @@
 -- The first row with a label, as the definition finds it.
 use mathlib.Core.Path.{◌≡◌, refl}
-use mathlib.Core.Bool.{Bool, true, false, cond}
 use mathlib.Core.List.{List, [], ◌∷◌}
-use Prim.Native.Nat.{ℕ}
-use lib.Dec.{eqb}
-use lib.IntN.{ℤ}
-use Rattle.std.specs.Prelude.{Option, Some, None}
-use Rattle.std.specs.List.{find}
+use Prim.Native.Nat.{ℕ, zero, suc, ◌<◌, ◌≤◌}
+use native.Mathlib.Omega.{arith}
+use lib.ListN.{length, get_or}
+use borrow.Author.Tests.{eq-eqb, ne_eqb}
 use Rattle.reading.specs.Reading.{refusal}
 use Rattle.format.specs.declared.Row.{Row}
 use Rattle.format.specs.declared.As.{As}
-use Rattle.format.specs.Message.{Answer, refused}
+use Rattle.format.specs.Message.{refused}
 use Rattle.format.specs.Asking.{ask, lookup}
+use Rattle.ask.specs.First.{no_row, FirstAt}
 
-abbrev pub asked_of : As → Option Row → Answer ℤ
-asked_of a (Some r) = ask a r
-asked_of a None = refused (refusal 16 0)
+-- past a row with another label
+later : {r : Row} {rs : List Row} {i k : ℕ} → FirstAt (r ∷ rs) i (suc k) → FirstAt rs i k
+later f = record { within = omega (arith, f.within); before = λ j h. f.before (suc j) (omega arith); found = λ h. f.found (omega arith) }
 
-looks : (rs : List Row) (i : ℕ) (a : As) → asked_of a (find (λ r. eqb r.label i) rs) ≡ lookup rs i a
+pub found : (rs : List Row) (i : ℕ) (a : As) (k : ℕ) → FirstAt rs i k → k < length rs → ask a (get_or rs k no_row) ≡ lookup rs i a
 unfolding lookup
-looks [] i a = refl
-looks (r ∷ rs) i a = by (eqb r.label i) (looks rs i a)
-  where
-    by : (b : Bool) → asked_of a (find (λ r. eqb r.label i) rs) ≡ lookup rs i a → asked_of a (cond b (Some r) (find (λ r. eqb r.label i) rs)) ≡ cond b (ask a r) (lookup rs i a)
-    by true h = refl
-    by false h = h
+found [] i a k f h = absurd (omega arith)
+found (r ∷ rs) i a zero f h = rw (eq-eqb r.label i (f.found (omega arith)))
+found (r ∷ rs) i a (suc k) f h = rw (ne_eqb r.label i (f.before 0 (omega arith))) (found rs i a k (later f) (omega arith))
 
--- by what `find` answers
-pub looked-up : (rs : List Row) (i : ℕ) (a : As) (p : Option Row) → p ≡ find (λ r. eqb r.label i) rs → asked_of a p ≡ lookup rs i a
-looked-up rs i a p e = rw e (looks rs i a)
+pub none : (rs : List Row) (i : ℕ) (a : As) (k : ℕ) → FirstAt rs i k → length rs ≤ k → refused (refusal 16 0) ≡ lookup rs i a
+unfolding lookup
+none [] i a k f h = refl
+none (r ∷ rs) i a zero f h = absurd (omega arith)
+none (r ∷ rs) i a (suc k) f h = rw (ne_eqb r.label i (f.before 0 (omega arith))) (none rs i a k (later f) (omega arith))

@@ -6,9 +6,10 @@ mod tables;
 ghost use Rattle.std.specs.Prelude.{◌≡◌, ◌<◌, get_or};
 ghost use Rattle.format.specs.Types.{kind_of, table, uncarried};
 ghost use Rattle.format.specs.Data.{within};
-ghost use Rattle.format.specs.Asking.{fitting, integer_as, narrow};
+ghost use Rattle.format.specs.Asking.{fitting, narrow};
 ghost use Rattle.format.specs.Asking as asking;
-ghost use Rattle.ask.specs.Outcomes.{answered};
+ghost use Rattle.ask.specs.First.{First};
+ghost use Rattle.ask.specs.Outcomes.{answered, apart};
 ghost use Rattle.ask.specs.Sorts.{judged, narrowed_as, numbers_of};
 
 use format::{As, Row};
@@ -67,48 +68,55 @@ fn judge(ty: i32, number: i64) -> Option<Sort>
     Some(sort)
 }
 
-// An integer as a type whose numbers go from `least` to `most`.
-fn limit(value: i64, least: i64, most: i64) -> Result<i64, Refusal>
-    ensures { answered result ≡ fitting (within least most value) value }
+// The integer answer, where its value goes from `least` to `most`.
+fn limit(answer: Result<i64, Refusal>, least: i64, most: i64) -> Result<i64, Refusal>
+    ensures { answered result ≡ apart (answered answer) (λ z. fitting (within least most z) z) }
 {
+    let Ok(value) = answer else {
+        return Err(OTHER_TYPE);
+    };
     if !(least..=most).contains(&value) {
         return Err(OTHER_TYPE);
     }
     Ok(value)
 }
 
-// An integer as a type without a sign: -1 is the greatest value.
-fn unsigned(value: i64, most: i64) -> Result<i64, Refusal>
-    ensures { answered result ≡ narrow most value }
+// The integer answer without a sign: -1 is the greatest value.
+fn unsigned(answer: Result<i64, Refusal>, most: i64) -> Result<i64, Refusal>
+    ensures { answered result ≡ apart (answered answer) (narrow most) }
 {
+    let Ok(value) = answer else {
+        return Err(OTHER_TYPE);
+    };
     if value == -1 {
         return Ok(most);
     }
-    limit(value, 0, most)
+    limit(answer, 0, most)
 }
 
-// What an integer answers, as each type.
-fn integer(number: i64, wanted: As) -> Result<i64, Refusal>
-    ensures { answered result ≡ integer_as wanted number }
-{
-    match wanted {
-        As::Int16 => limit(number, -32768, 32767),
-        As::Int32 => limit(number, -2147483648, 2147483647),
-        As::Int64 => Ok(number),
-        As::Octet => unsigned(number, 255),
-        As::Char => unsigned(number, 65535),
-        As::Boolean => Err(OTHER_TYPE),
-    }
-}
-
-// The integer answer taken apart, and otherwise 15 at once: each narrower type reuses it.
-fn narrowed(sort: Sort, number: i64, wanted: As) -> Result<i64, Refusal>
-    ensures { answered result ≡ narrowed_as sort wanted number }
+// The integer answer, which each narrower type takes apart.
+fn int64(sort: Sort, number: i64) -> Result<i64, Refusal>
+    ensures { answered result ≡ narrowed_as sort As.Int64 number }
 {
     let Sort::Integer = sort else {
         return Err(OTHER_TYPE);
     };
-    integer(number, wanted)
+    Ok(number)
+}
+
+// What a row without a value of its own type asked for answers: each type by the integer answer.
+fn narrowed(sort: Sort, number: i64, wanted: As) -> Result<i64, Refusal>
+    ensures { answered result ≡ narrowed_as sort wanted number }
+{
+    let answer = int64(sort, number);
+    match wanted {
+        As::Int16 => limit(answer, -32768, 32767),
+        As::Int32 => limit(answer, -2147483648, 2147483647),
+        As::Int64 => answer,
+        As::Octet => unsigned(answer, 255),
+        As::Char => unsigned(answer, 65535),
+        As::Boolean => Err(OTHER_TYPE),
+    }
 }
 
 // The row's value as the type asked for. The row is judged first, so 14 comes before 15.
@@ -125,12 +133,19 @@ pub fn ask(row: Row, wanted: As) -> Result<i64, Refusal>
     }
 }
 
+// The index of the first row with a label.
+fn find(rows: &[Row], label: u32) -> Option<usize>
+    ensures { First rows.now label result }
+{
+    rows.iter().position(|row| row.label == label)
+}
+
 // The first row with a label is asked; 16 where there is none.
 pub fn lookup(rows: &[Row], label: u32, wanted: As) -> Result<i64, Refusal>
     ensures { answered result ≡ asking.lookup rows.now label wanted }
 {
-    match rows.iter().find(|row| row.label == label) {
-        Some(row) => ask(*row, wanted),
+    match find(rows, label) {
+        Some(k) => ask(rows[k], wanted),
         None => Err(MISSING),
     }
 }

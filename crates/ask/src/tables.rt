@@ -14,7 +14,7 @@ pub enum Sort {
 pub struct Kind(pub Sort, pub i64, pub i64);
 
 // The types -1 to -40, by -1 - identifier; None for those that are not carried.
-pub const KINDS: [Option<Kind>; 40] = [
+pub static KINDS: [Option<Kind>; 40] = [
     Some(Kind(Sort::Integer, -32768, 32767)), // int16
     Some(Kind(Sort::Integer, -2147483648, 2147483647)), // int32
     Some(Kind(Sort::Integer, i64::MIN, i64::MAX)), // int64

@@ -1,15 +1,11 @@
 use mathlib.Core.Path.{◌∙◌}
-use lib.Dec.{eqb}
-use Rattle.std.proofs.Common.{rules, tests, Some, None}
-use Rattle.std.proofs.lemmas.Iterator.{YieldsList-from_slice}
-use Rattle.std.proofs.lemmas.Iterator.Search.{find_from_yields_List}
-use Rattle.ask.proofs.Looking.{looked-up}
+use native.Mathlib.Omega.{arith}
+use Rattle.std.specs.Prelude.{length}
+use Rattle.ask.proofs.Looking.{found, none}
 use Rattle.ask.proofs.lookup.Goals as goal
 
 pub returns-in-Some : goal.returns-in-Some
-returns-in-Some c = c.ask.ensures ∙ looked-up c.args.rows.now c.args.label c.args.wanted (Some c.in-Some.row.now)
-    (rw c.in-Some.is at (find_from_yields_List (λ r. eqb r.label c.args.label) _ _ c.find.result c.find.ensures.ran (YieldsList-from_slice c.args.rows.now cc) (λ x b q k. search (rules, tests))))
+returns-in-Some c = let f = rw c.in-Some.is at c.find.ensures in c.ask.ensures ∙ found c.args.rows.now c.args.label c.args.wanted c.in-Some.k f.0 f.1
 
 pub returns-in-None : goal.returns-in-None
-returns-in-None c = looked-up c.args.rows.now c.args.label c.args.wanted None
-    (rw c.in-None.is at (find_from_yields_List (λ r. eqb r.label c.args.label) _ _ c.find.result c.find.ensures.ran (YieldsList-from_slice c.args.rows.now cc) (λ x b q k. search (rules, tests))))
+returns-in-None c = none c.args.rows.now c.args.label c.args.wanted (length c.args.rows.now) (rw c.in-None.is at c.find.ensures) (omega arith)
