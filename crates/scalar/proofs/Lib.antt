@@ -1,6 +1,7 @@
 pub mod Signed
 pub mod Tests
 pub mod Passing
+pub mod Narrow
 pub mod Integers
 pub mod Octets
 pub mod Chars

@@ -85,10 +85,10 @@ Size n = (n ≡ 1) ⊎ ((n ≡ 4) ⊎ (n ≡ 8))
 abbrev pub big_at : List ℕ → ℕ → ℕ → ℕ
 big_at o at n = big 0 (take n (drop at o))
 
--- (where there is none, no reading gives that)
+-- (where there is none, a desk line's reason, which no reading gives)
 abbrev pub code_out : List ℕ → Env → Option (ℕ × ℕ) → Out ℕ
 code_out o e (Some (next, c)) = got c (stand o next e)
-code_out o e None = stop (refusal 0 0)
+code_out o e None = stop (refusal 17 0)
 
 abbrev pub CodePast : List ℕ → ℕ → Option (ℕ × ℕ) → Type 0
 CodePast o at (Some (next, c)) = (at < next) × (next ≤ length o) × (c < 2 ^ 16)

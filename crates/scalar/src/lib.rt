@@ -360,12 +360,15 @@ fn plain_run(src: &[u8], from: usize, end: usize) -> usize
     requires { (from ≤ end) × (end ≤ length src.now) }
     ensures { Reached src.now from end result }
 {
-    for at in (from..end).step_by(16) {
-        if end - at < 16 || !plain16(src, at) {
+    // Counted, and not stepped: `step_by` took a third of the time more.
+    let sixteens = (end - from) / 16;
+    for i in 0..sixteens {
+        let at = from + 16 * i;
+        if !plain16(src, at) {
             return at;
         }
     }
-    end
+    from + 16 * sixteens
 }
 
 // The place of the first misspelt character from `from` to `end`, or `end`: by sixteens first. Octets past the end may be looked at.
