@@ -19,7 +19,7 @@ use Rattle.text.proofs.Lengths.{row-length}
 use Rattle.text.proofs.Lines.{spaced-none, spaced-more, numbers-spaced}
 use Rattle.text.proofs.Writes.{Left, left-all, left-part, left-fits, left-none}
 use Rattle.listing.specs.Listing.{Listed}
-use Rattle.replies.specs.Cases.{row_part, accepted, refused_by}
+use Rattle.replies.specs.Cases.{row_part, accepted, no_at}
 
 -- ---- numbers
 
@@ -57,16 +57,16 @@ value-short z h = omega (arith, number-length z [], none-length, decimal-length 
 pub framed-short : (z : ℤ) (n : ℕ) → mag z < 2 ^ 31 → n < 2 ^ 64 → length (accepted (z ∷ pos n ∷ [])) ≤ 64
 framed-short z n h g = omega (arith, number-length z (pos n ∷ []), number-length (pos n) [], none-length, signed-length 9 z (omega arith), count-length n g)
 
-pub no_short : (r : Refusal) → r.place < 2 ^ 64 → length (refused_by r) ≤ 64
-no_short r h =
+pub no_short : (n p : ℕ) → n < 2 ^ 8 → p < 2 ^ 64 → length (no_at n p) ≤ 64
+no_short n p h g =
     omega (
       arith,
-      number-length (pos (number_of r.reason)) (pos r.place ∷ pos 1 ∷ []),
-      number-length (pos r.place) (pos 1 ∷ []),
+      number-length (pos n) (pos p ∷ pos 1 ∷ []),
+      number-length (pos p) (pos 1 ∷ []),
       number-length (pos 1) [],
       none-length,
-      digits-few 2 (number_of r.reason) (omega (arith, number-small r.reason)),
-      count-length r.place h,
+      digits-few 2 n (omega arith),
+      count-length p g,
       digits-few 0 1 (omega arith),
     )
 

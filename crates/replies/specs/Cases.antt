@@ -36,8 +36,11 @@ abbrev pub accepted : List ℤ → List ℕ
 accepted zs = 0x6F ∷ 0x6B ∷ spaced zs
 
 -- "no NUMBER PLACE 1"
+abbrev pub no_at : ℕ → ℕ → List ℕ
+no_at n p = 0x6E ∷ 0x6F ∷ spaced (pos n ∷ pos p ∷ pos 1 ∷ [])
+
 abbrev pub refused_by : Refusal → List ℕ
-refused_by r = 0x6E ∷ 0x6F ∷ spaced (pos (number_of r.reason) ∷ pos r.place ∷ pos 1 ∷ [])
+refused_by r = no_at (number_of r.reason) r.place
 
 abbrev pub reply : {A : Type 0} → (A → Reply) → Answer A → Reply
 reply f (ok a) = f a

@@ -8,7 +8,7 @@ ghost use Rattle.integer.specs.Writes.{Room, Wrote};
 ghost use Rattle.text.specs.Text.{spaced};
 ghost use Rattle.listing.specs.Listing.{Listed};
 ghost use Rattle.queries.specs.Queries.{outcome};
-ghost use Rattle.replies.specs.Cases.{row_part, bad, accepted, refused_by, reply, measured, slash, desk_text, query_text, alone_text};
+ghost use Rattle.replies.specs.Cases.{row_part, bad, accepted, refused_by, no_at, reply, measured, slash, desk_text, query_text, alone_text};
 ghost use Rattle.replies.specs.Fields.{FieldRead, CaseRead, asks_row, plain_text};
 ghost use Rattle.replies.specs.Slashes.{SlashesPut};
 
@@ -64,15 +64,23 @@ pub fn put_framed(out: &mut [u8], at: usize, conversation: i32, rows: usize) -> 
     put_count(out, mid, rows as u64)
 }
 
+// Writes a refusal in input 1 by any number, one of 01's or not.
+pub fn put_no_at(out: &mut [u8], at: usize, number: u8, place: usize) -> usize
+    requires { at + 32768 ≤ length out.old }
+    ensures { Listed (no_at number place) at out.old result out.new }
+{
+    let next = text::put_text(out, at, b"no");
+    let past = put_count(out, next, number as u64);
+    let input = put_count(out, past, place as u64);
+    put_count(out, input, 1)
+}
+
 // Writes a refusal, in input 1.
 pub fn put_no(out: &mut [u8], at: usize, r: Refusal) -> usize
     requires { at + 32768 ≤ length out.old }
     ensures { Listed (refused_by r) at out.old result out.new }
 {
-    let next = text::put_text(out, at, b"no");
-    let place = put_count(out, next, r.reason.number() as u64);
-    let input = put_count(out, place, r.place as u64);
-    put_count(out, input, 1)
+    put_no_at(out, at, r.reason.number(), r.place)
 }
 
 // ---- Rows ----

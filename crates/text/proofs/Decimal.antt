@@ -41,6 +41,9 @@ pub decimal-more : (n : ℕ) → 10 ≤ n → decimal (pos n) ≡ decimal (pos (
 unfolding decimal
 decimal-more n h = digits_by-more n n h ∙ ap (λ (l : List ℕ). l ++ ((0x30 + n % 10) ∷ [])) (enough n (suc (n / 10)) (n / 10) (omega arith) (omega arith))
 
+pub decimal-two : (n : ℕ) → 10 ≤ n → n < 100 → decimal (pos n) ≡ (0x30 + n / 10) ∷ (0x30 + n % 10) ∷ []
+decimal-two n h g = decimal-more n h ∙ rw (decimal-one (n / 10) (omega arith))
+
 pub decimal-minus : (n : ℕ) → decimal (negsuc n) ≡ 0x2D ∷ decimal (pos (suc n))
 unfolding decimal
 decimal-minus n = refl

@@ -30,6 +30,16 @@ pub fn put_digits(out: &mut [u8], at: usize, n: u64) -> usize
     requires { Room (decimal (pos n)) at out.old }
     ensures { Wrote (decimal (pos n)) at out.old result out.new }
 {
+    // Most numbers of rows have one digit or two: by the buffer a row of them took half the time more.
+    if n < 10 {
+        out[at] = b'0' + n as u8;
+        return at + 1;
+    }
+    if n < 100 {
+        out[at] = b'0' + (n / 10) as u8;
+        out[at + 1] = b'0' + (n % 10) as u8;
+        return at + 2;
+    }
     let mut buffer = Buffer::new();
     put_text(out, at, buffer.format(n).as_bytes())
 }
@@ -39,8 +49,11 @@ pub fn put_number(out: &mut [u8], at: usize, v: i64) -> usize
     requires { Room (decimal v) at out.old }
     ensures { Wrote (decimal v) at out.old result out.new }
 {
-    let mut buffer = Buffer::new();
-    put_text(out, at, buffer.format(v).as_bytes())
+    if v < 0 {
+        out[at] = b'-';
+        return put_digits(out, at + 1, v.unsigned_abs());
+    }
+    put_digits(out, at, v as u64)
 }
 
 // Writes numbers from a place on, a blank before each.
@@ -97,7 +110,7 @@ pub fn put_row(out: &mut [u8], at: usize, r: Row) -> usize
 }
 
 // Writes a line of a word and two numbers from a place on.
-fn put_told(out: &mut [u8], at: usize, word: &[u8], first: i64, second: u64) -> usize
+pub fn put_told(out: &mut [u8], at: usize, word: &[u8], first: i64, second: u64) -> usize
     requires { Room (told word.now first second) at out.old }
     ensures { Wrote (told word.now first second) at out.old result out.new }
 {

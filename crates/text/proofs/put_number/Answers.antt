@@ -1,10 +1,15 @@
+use mathlib.Core.Path.{refl}
 use mir.Syntax.{w64}
-use mir.ValLaws.{to_z-of_z}
-use Rattle.text.proofs.Decimal.{spelt-as}
+use Rattle.integer.proofs.Signs.{held}
+use Rattle.integer.proofs.Writes.{wrote-more, room-one, room-more}
+use Rattle.text.proofs.Signs.{minus-spelt}
 use Rattle.text.proofs.put_number.Goals as goal
 
-pub put_text-requires : goal.put_text-requires
-put_text-requires c = rw (c.as_bytes.ensures.value, c.format.ensures.text, to_z-of_z w64 c.args.v c.ranges.v) (rw (spelt-as c.args.v c.ranges.v.sfits) at c.requires)
+pub bounds-out-at : goal.bounds-out-at
+bounds-out-at c = room-one (minus-spelt c.args.v c.ranges.v c.if-v-lt0.true refl) c.requires
 
-pub returns : goal.returns
-returns c = rw (spelt-as c.args.v c.ranges.v.sfits) (rw (c.as_bytes.ensures.value, c.format.ensures.text, to_z-of_z w64 c.args.v c.ranges.v) at c.put_text.ensures)
+pub put_digits-requires : goal.put_digits-requires
+put_digits-requires c = room-more (minus-spelt c.args.v c.ranges.v c.if-v-lt0.true (rw (held {w = w64} {z = c.args.v} c.ranges.v) at c.unsigned_abs.ensures.value)) c.requires
+
+pub returns-then-v-lt0 : goal.returns-then-v-lt0
+returns-then-v-lt0 c = wrote-more (minus-spelt c.args.v c.ranges.v c.if-v-lt0.true (rw (held {w = w64} {z = c.args.v} c.ranges.v) at c.unsigned_abs.ensures.value)) c.put_digits.ensures
