@@ -16,7 +16,7 @@ use Rattle.format.specs.declared.Row.{Row}
 use Rattle.format.specs.Writing.{Table}
 use Rattle.columns.specs.declared.ColumnsMut.{ColumnsMut}
 use Rattle.columns.specs.Lent.{SameLoans}
-use Rattle.columns.specs.Columns.{shortest, Roomy, Kept, put, put_row, Stored, LeafRoom, LeafStored, Single, Blank, puts, over, Filled}
+use Rattle.columns.specs.Columns.{shortest, Roomy, NestRoom, Kept, put, put_row, Stored, LeafRoom, LeafStored, Single, Blank, puts, over, Filled}
 
 pub kept_same : {t : Table} → Kept t t
 kept_same = record { ty_kept = refl; own_kept = refl; label_kept = refl; number_kept = refl; first_kept = refl; second_kept = refl; place_kept = refl; below_kept = refl; start_kept = refl; end_kept = refl }
@@ -66,6 +66,9 @@ room_for t h =
 
 pub roomy : {lim : ℕ} {t u : Table} → Kept t u → Roomy lim u → Roomy lim t
 roomy ks r = record { ty_room = rw ks.ty_kept r.ty_room; own_room = rw ks.own_kept r.own_room; label_room = rw ks.label_kept r.label_room; number_room = rw ks.number_kept r.number_room; first_room = rw ks.first_kept r.first_room; second_room = rw ks.second_kept r.second_room; place_room = rw ks.place_kept r.place_room; below_room = rw ks.below_kept r.below_room; start_room = rw ks.start_kept r.start_room; end_room = rw ks.end_kept r.end_room }
+
+pub nest_room : {n : ℕ} {t : Table} → Roomy n t → NestRoom n t
+nest_room r = record { first_room = r.first_room; second_room = r.second_room; below_room = r.below_room }
 
 -- ---- the order of storing does not matter
 

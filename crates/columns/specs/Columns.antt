@@ -69,6 +69,12 @@ pub record LeafRoom (k : ℕ) (t : Table) : Type 0 where
   pub start_room : k < length t.start
   pub end_room : k < length t.end
 
+-- the other three have room for n rows
+pub record NestRoom (n : ℕ) (t : Table) : Type 0 where
+  pub first_room : n ≤ length t.first
+  pub second_room : n ≤ length t.second
+  pub below_room : n ≤ length t.below
+
 -- the row's numbers stand at k in the seven, and all else is as it was
 pub record LeafStored (k : ℕ) (r : Row) (t t' : Table) : Type 0 where
   pub ty_stored : t'.ty ≡ set t.ty k r.ty

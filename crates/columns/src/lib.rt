@@ -1,8 +1,8 @@
 #![tactic(auto)]
 
 // Ten lent columns: cleared, rows stored in them, and read.
-ghost use Rattle.std.specs.Prelude.{◌≡◌, ◌≤◌, ◌<◌, ◌+◌, length};
-ghost use Rattle.columns.specs.Columns.{Roomy, Stored, LeafRoom, LeafStored, cleared, shortest, RowOf};
+ghost use Rattle.std.specs.Prelude.{◌≡◌, ◌≤◌, ◌<◌, ◌+◌, length, pos};
+ghost use Rattle.columns.specs.Columns.{Roomy, NestRoom, Stored, LeafRoom, LeafStored, cleared, shortest, RowOf};
 ghost use Rattle.columns.specs.Lent.{table, table_of, SameLoans, Cleared};
 
 use format::Row;
@@ -32,6 +32,22 @@ fn clear<T: Clone>(col: &mut [T], n: usize, z: T)
     col[..n].fill(z);
 }
 
+// 0 in the first n rows of a column of element types.
+pub fn clear_types(col: &mut [i32], n: usize)
+    requires { n ≤ length col.old }
+    ensures { col.new ≡ cleared n (pos 0) col.old }
+{
+    clear(col, n, 0);
+}
+
+// 0 in the first n rows of a column of counts.
+pub fn clear_counts(col: &mut [u32], n: usize)
+    requires { n ≤ length col.old }
+    ensures { col.new ≡ cleared n 0 col.old }
+{
+    clear(col, n, 0);
+}
+
 impl ColumnsMut<'_> {
     // The same columns, for reading.
     pub fn rows(&self) -> Columns<'_>
@@ -53,13 +69,13 @@ impl ColumnsMut<'_> {
 
     // 0 in the first n rows of the element types and of the rows below.
     pub fn clear(&mut self, n: usize)
-        requires { Roomy n (table self.old) }
+        requires { NestRoom n (table self.old) }
         ensures lent { SameLoans self.old self.new }
         ensures cleared { Cleared n (table self.old) (table self.new) }
     {
-        clear(self.first, n, 0);
-        clear(self.second, n, 0);
-        clear(self.below, n, 0);
+        clear_types(self.first, n);
+        clear_types(self.second, n);
+        clear_counts(self.below, n);
     }
 
     // Stores a row in seven columns: all but element types and rows below. The row of a value that holds no others has 0 in those three, and 0 stands
