@@ -129,6 +129,8 @@ pub fn read_frame(src: &[u8], columns: &mut ColumnsMut<'_>) -> Result<Frame, Ref
 {
     let frame = check_frame(src)?;
     let at = frame.message.0;
-    message::store_rows(&src[at..], columns, frame.rows)?;
-    Ok(frame)
+    match message::store_rows(&src[at..], columns, frame.rows) {
+        Ok(()) => Ok(frame),
+        Err(r) => Err(r),
+    }
 }

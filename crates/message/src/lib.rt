@@ -29,7 +29,10 @@ pub fn read_message(src: &[u8], columns: &mut ColumnsMut<'_>) -> Result<usize, R
     ensures lent { SameLoans columns.old columns.new }
     ensures read { MessageRead src.now (table columns.old) result (table columns.new) }
 {
-    let n = measure::count_rows(src)?;
+    let n = match measure::count_rows(src) {
+        Ok(count) => count,
+        Err(r) => return Err(r),
+    };
     store_rows(src, columns, n)?;
     Ok(n)
 }

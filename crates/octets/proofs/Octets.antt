@@ -3,7 +3,7 @@ use Rattle.std.proofs.Common.{◌≡◌, ℕ, zero, suc, ◌+◌, ◌-◌, ◌<�
 use Rattle.std.proofs.lemmas.List.{drop-take}
 use Rattle.std.proofs.Math.Seq.{length-take-le}
 use Rattle.std.proofs.Math.ListN.{length-drop}
-use Rattle.std.specs.Prelude.{Option, Some, None, MatchOption, IsSomeAnd}
+use Rattle.std.specs.Prelude.{Option, Some, None}
 use Rattle.memchr.specs.Find.{Passes, Nowhere, NoneBefore, IsFirstByte, is_byte}
 use Rattle.octets.specs.Octets.{slice, index_after, index_of, Found}
 
@@ -34,14 +34,12 @@ module _ (b from to : ℕ) (l : List ℕ) (f : from ≤ to) (t : to ≤ length l
   long : length (take (to - from) (drop from l)) ≡ to - from
   long = length-take-le (to - from) (drop from l) (omega (arith, length-drop from l))
 
-  none : Nowhere (Passes (is_byte b) (take (to - from) (drop from l))) 0 (length (take (to - from) (drop from l))) → to ≡ from + index_of b (slice from to l)
-  none h = omega (arith, ap (index_of b) part, index-none b (take (to - from) (drop from l)) h, long)
+  -- by what `memchr` answers
+  pub none : {r : Option ℕ} → IsFirstByte (is_byte b) (take (to - from) (drop from l)) r → r ≡ None → to ≡ from + index_of b (slice from to l)
+  none h e = omega (arith, ap (index_of b) part, index-none b (take (to - from) (drop from l)) (rw e at h), long)
 
-  some : (k : ℕ) → NoneBefore (Passes (is_byte b) (take (to - from) (drop from l))) 0 (length (take (to - from) (drop from l))) k → Passes (is_byte b) (take (to - from) (drop from l)) k → (from + k ≡ from + index_of b (slice from to l)) × (from + k < to)
-  some k n p = let e : index_of b (slice from to l) ≡ k = ap (index_of b) part ∙ index-some b (take (to - from) (drop from l)) k n.high n.before p in (omega arith, omega (arith, n.high, long))
-
-  -- by what `memchr` answers, moved by `from`
-  pub found : {Q : ℕ → ℕ → Type 0} (r s : Option ℕ) → IsFirstByte (is_byte b) (take (to - from) (drop from l)) r → MatchOption r (s ≡ None) (λ k. IsSomeAnd s (λ n. Q k n)) → ((k n : ℕ) → Q k n → n ≡ from + k) → Found from to (index_of b (slice from to l)) s
-  found None s h e q = rw e (none h)
-  found (Some k) (Some n) h e q = rw (q k n e) (some k h.0 h.1)
-  found (Some k) None h e q = absurd e
+  pub some : {r : Option ℕ} (k : ℕ) → IsFirstByte (is_byte b) (take (to - from) (drop from l)) r → r ≡ Some k → (from + k ≡ from + index_of b (slice from to l)) × (from + k < to)
+  some {r} k h e =
+      let g : IsFirstByte (is_byte b) (take (to - from) (drop from l)) (Some k) = rw e at h in
+      let i : index_of b (slice from to l) ≡ k = ap (index_of b) part ∙ index-some b (take (to - from) (drop from l)) k g.0.high g.0.before g.1 in
+      (omega arith, omega (arith, g.0.high, long))

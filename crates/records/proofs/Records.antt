@@ -4,7 +4,7 @@ use mathlib.Core.Bool.{Bool, true, false, cond}
 use mathlib.Core.List.{List, [], ◌∷◌, ◌++◌, map, append_assoc, append-nil}
 use Prim.Native.Nat.{ℕ, zero, suc, ◌+◌, ◌<◌, ◌≤◌}
 use native.Mathlib.Omega.{arith}
-use lib.ListN.{length, get_or, take, drop, length-append, length-map}
+use lib.ListN.{length, get_or, take, drop, drop_of_length-le, length-append, length-map}
 use lib.Seq.{get_or-drop, drop-drop, drop-cons, length-take-le}
 use lib.IntN.{ℤ, pos}
 use lib.Dec.{eqb}
@@ -179,3 +179,13 @@ pub found-room : (t : Table) (x : ℕ) {n : ℕ} {o : Option ℕ} {k : ℕ} → 
 found-room t x {n} {k = k} s e f =
     let p = position-Some (λ l. eqb l x) (take n t.label) k 0 (sym e ∙ f) in
     room_for t (omega (arith, p.0, length-take-le n t.label (labels-room t s), s))
+
+-- ---- labels passed one by one
+
+-- the first sought one stands at k, where none stands before
+pub found-at : (l : List ℕ) (x k : ℕ) → k < length l → eqb (get_or l k 0) x ≡ true → position_from (λ l. eqb l x) 0 l ≡ position_from (λ l. eqb l x) k (drop k l) → Some k ≡ position (λ l. eqb l x) l
+found-at l x k h e p = sym (position_from-zero (λ l. eqb l x) l ∙ p ∙ rw (drop-cons l k 0 h, e))
+
+-- and nowhere, where none stands before k, and no more are left
+pub none-left : (l : List ℕ) (x k : ℕ) → length l ≤ k → position_from (λ l. eqb l x) 0 l ≡ position_from (λ l. eqb l x) k (drop k l) → None ≡ position (λ l. eqb l x) l
+none-left l x k h p = sym (position_from-zero (λ l. eqb l x) l ∙ p ∙ rw (drop_of_length-le l {i = k} h))

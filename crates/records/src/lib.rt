@@ -14,7 +14,12 @@ use reading::{Reason, Refusal};
 fn find(labels: &[u32], sought: u32) -> Option<usize>
     ensures { result ≡ position (λ label. label == sought) labels.now }
 {
-    labels.iter().position(|label| *label == sought)
+    for k in 0..labels.len() {
+        if labels[k] == sought {
+            return Some(k);
+        }
+    }
+    None
 }
 
 // The first row of ten columns that has a label is asked, 16 where there is none. There are as many rows as the shortest column has.

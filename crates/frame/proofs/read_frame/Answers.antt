@@ -14,10 +14,8 @@ store_rows-requires c = few _ c.check_frame.ensures c.in_ok-frame.was (λ i. (c.
 pub returns-in_err-frame-clause-read : goal.returns-in_err-frame-clause-read
 returns-in_err-frame-clause-read c = let p = err_from_is_err_and c.from_residual.result c.from_residual.ensures.1 in rw (p.1, p.2) (read-refused _ _ c.check_frame.ensures c.in_err-frame.was)
 
-pub returns-in_err-store_rows-clause-read : goal.returns-in_err-store_rows-clause-read
-returns-in_err-store_rows-clause-read c =
-    let p = err_from_is_err_and c.from_residual-in_err-store_rows.result c.from_residual-in_err-store_rows.ensures.1 in
-    rw (p.1, p.2) (read_short _ _ c.check_frame.ensures c.in_ok-frame.was (λ i. (c.type_inv.src i).fits) c.store_rows.ensures.stored c.in_err-store_rows.was)
+pub returns-in-Err-clause-read : goal.returns-in-Err-clause-read
+returns-in-Err-clause-read c = read_short _ _ c.check_frame.ensures c.in_ok-frame.was (λ i. (c.type_inv.src i).fits) c.store_rows.ensures.stored c.in-Err.is
 
-pub returns-clause-read : goal.returns-clause-read
-returns-clause-read c = read-rows _ _ c.check_frame.ensures c.in_ok-frame.was (λ i. (c.type_inv.src i).fits) c.store_rows.ensures.stored c.in_ok-store_rows.was
+pub returns-in-Ok-clause-read : goal.returns-in-Ok-clause-read
+returns-in-Ok-clause-read c = read-rows _ _ c.check_frame.ensures c.in_ok-frame.was (λ i. (c.type_inv.src i).fits) c.store_rows.ensures.stored c.in-Ok.is
