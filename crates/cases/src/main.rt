@@ -37,10 +37,14 @@ fn answer_case<W: Write>(
     let begun = answers::begin_line(line, work, columns, out, 0);
     let n = begun.rows;
     let mut next = begun.end;
+    let mut put = 0;
     for k in (0..n).step_by(256) {
+        // No row is left out between one part and the next.
+        prove!(k == put);
         let m = (n - k).min(256);
         next = answers::put_rows(columns.rows(), k, m, out, next);
         next = flush(output, out, next)?;
+        put += m;
     }
     out[next] = b'\n';
     output.write_all(&out[..next + 1])
@@ -102,7 +106,8 @@ fn answer_input<R: Read, W: Write>(
     out: &mut [u8],
 ) -> io::Result<()>
     requires { (2 ≤ length src.old) × (length src.old ≤ 2 * length work.old) × Lent (table columns.old) × (65536 ≤ length out.old) × (length src.old < 2 ^ 32) }
-    ensures { OnErr result (Lent (table columns.new) × (length out.new ≡ length out.old)) }
+    ensures lent { SameLoans columns.old columns.new }
+    ensures err { OnErr result (Lent (table columns.new) × (length out.new ≡ length out.old)) }
 {
     let mut held = 0;
     for _ in 0..u64::MAX {
