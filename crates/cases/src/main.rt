@@ -46,6 +46,7 @@ fn answer_case<W: Write>(
         next = flush(output, out, next)?;
         put += m;
     }
+    prove!(put == n);
     out[next] = b'\n';
     output.write_all(&out[..next + 1])
 }

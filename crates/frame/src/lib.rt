@@ -129,6 +129,7 @@ pub fn read_frame(src: &[u8], columns: &mut ColumnsMut<'_>) -> Result<Frame, Ref
 {
     let frame = check_frame(src)?;
     let at = frame.message.0;
+    // An arm, not `?`: an edit turns what it hands on.
     match message::store_rows(&src[at..], columns, frame.rows) {
         Ok(()) => Ok(frame),
         Err(r) => Err(r),

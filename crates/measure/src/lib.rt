@@ -173,6 +173,8 @@ fn deep_reason(class: Class, once: bool) -> Reason
                 Reason::TooDeep
             }
         }
+        // As all others, in an arm that an edit turns.
+        Class::Holder(_) => Reason::TooDeep,
         _ => Reason::TooDeep,
     }
 }

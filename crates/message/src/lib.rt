@@ -29,6 +29,7 @@ pub fn read_message(src: &[u8], columns: &mut ColumnsMut<'_>) -> Result<usize, R
     ensures lent { SameLoans columns.old columns.new }
     ensures read { MessageRead src.now (table columns.old) result (table columns.new) }
 {
+    // An arm, not `?`: an edit turns what it hands on.
     let n = match measure::count_rows(src) {
         Ok(count) => count,
         Err(r) => return Err(r),

@@ -4,8 +4,8 @@ use Rattle.std.proofs.lemmas.List.{drop-take}
 use Rattle.std.proofs.Math.Seq.{length-take-le}
 use Rattle.std.proofs.Math.ListN.{length-drop}
 use Rattle.std.specs.Prelude.{Option, Some, None}
-use Rattle.memchr.specs.Find.{Passes, Nowhere, NoneBefore, IsFirstByte, is_byte}
-use Rattle.octets.specs.Octets.{slice, index_after, index_of, Found}
+use Rattle.memchr.specs.Find.{Passes, Nowhere, IsFirstByte, is_byte}
+use Rattle.octets.specs.Octets.{slice, index_after, index_of}
 
 index-none : (b : ℕ) (l : List ℕ) → Nowhere (Passes (is_byte b) l) 0 (length l) → index_of b l ≡ length l
 unfolding index_of index_after

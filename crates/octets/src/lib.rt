@@ -8,6 +8,7 @@ pub fn find(src: &[u8], from: usize, to: usize, b: u8) -> Option<usize>
     requires { (from ≤ to) × (to ≤ length src.now) }
     ensures { Found from to (index_of b (slice from to src.now)) result }
 {
+    // An arm for none, not `map`: an edit turns it.
     match memchr::memchr(b, &src[from..to]) {
         Some(k) => Some(from + k),
         None => None,

@@ -14,6 +14,7 @@ use reading::{Reason, Refusal};
 fn find(labels: &[u32], sought: u32) -> Option<usize>
     ensures { result ≡ position (λ label. label == sought) labels.now }
 {
+    // By place, not `position`: an edit begins at 1.
     for k in 0..labels.len() {
         if labels[k] == sought {
             return Some(k);

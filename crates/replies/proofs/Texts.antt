@@ -6,9 +6,6 @@ use native.Mathlib.Omega.{arith}
 use lib.ListN.{length, length-append}
 use lib.IntN.{ℤ, pos}
 use lib.Signed.{mag}
-use Rattle.reading.specs.declared.Refusal.{Refusal}
-use Rattle.reading.specs.Reading.{number_of}
-use Rattle.reading.proofs.Reasons.{number-small}
 use Rattle.format.specs.declared.Row.{Row}
 use Rattle.format.specs.Desk.{decimal, numbers}
 use Rattle.integer.specs.Writes.{Room, Wrote}

@@ -83,7 +83,3 @@ decimal-length v h = signed-length 18 v (omega arith)
 
 pub spelt : (n : ℕ) → n < 2 ^ 64 → decimal (pos n) ≡ spelling.decimal n
 spelt n h = decimal_by_steps (λ n ds. decimal (pos n) ≡ ds) decimal-one (λ n ds m e. decimal-more n m ∙ ap (λ (l : List ℕ). l ++ ((0x30 + n % 10) ∷ [])) e) n h
-
-pub spelt-as : (z : ℤ) → mag z < 2 ^ 63 → decimal z ≡ spelling.signed_decimal z
-spelt-as (pos n) h = spelt n (omega arith)
-spelt-as (negsuc n) h = decimal-minus n ∙ ap (λ (l : List ℕ). 0x2D ∷ l) (spelt (suc n) (omega arith))

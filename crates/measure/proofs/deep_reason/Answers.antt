@@ -12,3 +12,6 @@ returns-else-once c = as-deep c.in-Identity.is (deep-first c.if-once.false)
 
 pub returns-in_default : goal.returns-in_default
 returns-in_default c = deep-plain c.in_default.not-Refused c.in_default.not-Identity
+
+pub returns-in-Holder : goal.returns-in-Holder
+returns-in-Holder c = as-deep c.in-Holder.is (deep-plain (λ e. cc) (λ e. cc))

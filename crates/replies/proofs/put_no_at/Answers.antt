@@ -10,10 +10,10 @@ pub put_count-past-requires : goal.put_count-past-requires
 put_count-past-requires c = (number-fits _ _ (word-put 0x6E 0x6F (pos c.args.number ∷ pos c.args.place ∷ pos 1 ∷ []) (no_short _ _ c.ranges.number.fits c.ranges.place.fits) c.requires c.put_text-next.ensures))
 
 pub put_count-input-requires : goal.put_count-input-requires
-put_count-input-requires c = number-fits _ _ (number-put _ _ (word-put 0x6E 0x6F (pos c.args.number ∷ pos c.args.place ∷ pos 1 ∷ []) (no_short _ _ c.ranges.number.fits c.ranges.place.fits) c.requires c.put_text-next.ensures) (c.put_count-past.ensures))
+put_count-input-requires c = number-fits _ _ (number-put _ _ (word-put 0x6E 0x6F (pos c.args.number ∷ pos c.args.place ∷ pos 1 ∷ []) (no_short _ _ c.ranges.number.fits c.ranges.place.fits) c.requires c.put_text-next.ensures) c.put_count-past.ensures)
 
 pub put_count-requires : goal.put_count-requires
-put_count-requires c = number-fits _ _ (number-put _ _ (number-put _ _ (word-put 0x6E 0x6F (pos c.args.number ∷ pos c.args.place ∷ pos 1 ∷ []) (no_short _ _ c.ranges.number.fits c.ranges.place.fits) c.requires c.put_text-next.ensures) (c.put_count-past.ensures)) c.put_count-input.ensures)
+put_count-requires c = number-fits _ _ (number-put _ _ (number-put _ _ (word-put 0x6E 0x6F (pos c.args.number ∷ pos c.args.place ∷ pos 1 ∷ []) (no_short _ _ c.ranges.number.fits c.ranges.place.fits) c.requires c.put_text-next.ensures) c.put_count-past.ensures) c.put_count-input.ensures)
 
 pub returns : goal.returns
-returns c = listed (no_short _ _ c.ranges.number.fits c.ranges.place.fits) (numbers-put (number-put _ _ (number-put _ _ (number-put _ _ (word-put 0x6E 0x6F (pos c.args.number ∷ pos c.args.place ∷ pos 1 ∷ []) (no_short _ _ c.ranges.number.fits c.ranges.place.fits) c.requires c.put_text-next.ensures) (c.put_count-past.ensures)) c.put_count-input.ensures) c.put_count.ensures))
+returns c = listed (no_short _ _ c.ranges.number.fits c.ranges.place.fits) (numbers-put (number-put _ _ (number-put _ _ (number-put _ _ (word-put 0x6E 0x6F (pos c.args.number ∷ pos c.args.place ∷ pos 1 ∷ []) (no_short _ _ c.ranges.number.fits c.ranges.place.fits) c.requires c.put_text-next.ensures) c.put_count-past.ensures) c.put_count-input.ensures) c.put_count.ensures))
